@@ -1,0 +1,45 @@
+// What the streams of random words are drawn for.
+ghost use Rattle.std.specs.Prelude.{◌≡◌};
+ghost use Rattle.rx_torus.specs.Kinds.{stream_number};
+
+/// What a stream is drawn for, and under which seed.
+#[derive(Clone, Copy, Debug, PartialEq, Eq)]
+pub enum StreamKind {
+    /// Bits of the small key, under the client's seed.
+    SmallKey,
+    /// Bits of one polynomial of the large key, under the client's seed.
+    LargeKey,
+    /// Masks of one bootstrapping row, under the mask seed of the key.
+    BootMask,
+    /// Noises of one bootstrapping row, under the client's seed.
+    BootNoise,
+    /// Masks of one row of the key switch, under the mask seed of the key.
+    SwitchMask,
+    /// The noise of one row of the key switch, under the client's seed.
+    SwitchNoise,
+    /// Masks of one fresh block, under the mask seed of the encryption.
+    BlockMask,
+    /// The noise of one fresh block, under the noise seed of the encryption.
+    BlockNoise,
+}
+
+impl StreamKind {
+    ghost use Rattle.rx_torus.specs.Kinds.{stream_number};
+
+    /// The number of the stream of a row.
+    pub fn stream_number(self, row: u32) -> u64
+        ensures { result ≡ stream_number self row }
+    {
+        let kind: u64 = match self {
+            StreamKind::SmallKey => 1,
+            StreamKind::LargeKey => 2,
+            StreamKind::BootMask => 3,
+            StreamKind::BootNoise => 4,
+            StreamKind::SwitchMask => 5,
+            StreamKind::SwitchNoise => 6,
+            StreamKind::BlockMask => 7,
+            StreamKind::BlockNoise => 8,
+        };
+        kind * 0x1_0000_0000 + u64::from(row)
+    }
+}
