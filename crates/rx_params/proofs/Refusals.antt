@@ -1,0 +1,266 @@
+-- A set is accepted exactly where nothing refuses it, and what refuses it where it is not.
+use Rattle.std.proofs.Common.{lit≤, ℕ, ◌≡◌, ◌<◌, ◌≤◌, ◌+◌, ◌*◌, ◌^◌, ◌⊎◌, ◌↔◌, ◌==◌, nat_le, nat_lt, ◌&&◌, ◌||◌, Bool, true, false, List, ◌∷◌, drop, Option, Some, None, Ok, Err, if◌then◌else◌, refl, ◌∙◌, ap, inl, inr, arith}
+use Rattle.std.proofs.lemmas.Bool.Decides.{nat_tests}
+use Rattle.rx_laws.specs.Decode.{plaintexts}
+use Rattle.rx_params.specs.declared.params.Params.{Params}
+use Rattle.rx_params.specs.declared.bounds.Refused.{Refused}
+use Rattle.rx_params.specs.declared.bounds.Refused.TheVariants.{Limit, NarrowBox, Noise}
+use Rattle.rx_params.specs.Derived.{key_words, left_of, right_of, bounds_of}
+use Rattle.rx_params.specs.Acceptance.{IsWithin, FieldsInRange, Accepts, is_within, is_poly_size, limited, first_outside, first_of, box_refusal, noise_refusal, refusal_of, answered, checked}
+
+-- the test of each field passes
+pub record FieldsPass (p : Params) : Type 0 where
+  pub message_bits : ((p.message_bits == 2) || (p.message_bits == 3)) ≡ true
+  pub glwe_dim : is_within 1 4 p.glwe_dim ≡ true
+  pub poly_size : is_poly_size p.poly_size ≡ true
+  pub lwe_dim : is_within 1 1024 p.lwe_dim ≡ true
+  pub pbs_base_log : is_within 1 24 p.pbs_base_log ≡ true
+  pub pbs_level : (is_within 1 30 p.pbs_level && nat_le (p.pbs_base_log * p.pbs_level) 60) ≡ true
+  pub ks_base_log : is_within 1 24 p.ks_base_log ≡ true
+  pub ks_level : (is_within 1 30 p.ks_level && nat_le (p.ks_base_log * p.ks_level) 60) ≡ true
+  pub glwe_bound : nat_le p.glwe_bound 40 ≡ true
+  pub lwe_bound : nat_le p.lwe_bound 40 ≡ true
+
+two_or_three : (n : ℕ) → (n ≡ 2) ⊎ (n ≡ 3) → ((n == 2) || (n == 3)) ≡ true
+two_or_three n h = grind (arith, nat_tests)
+
+two_or_three-is : (n : ℕ) → ((n == 2) || (n == 3)) ≡ true → (n ≡ 2) ⊎ (n ≡ 3)
+two_or_three-is n h = grind (arith, nat_tests)
+
+within : (low high n : ℕ) → IsWithin low high n → is_within low high n ≡ true
+within low high n h = grind (arith, nat_tests)
+
+within-is : (low high n : ℕ) → is_within low high n ≡ true → IsWithin low high n
+within-is low high n h = grind (arith, nat_tests)
+
+at_most : (n high : ℕ) → n ≤ high → nat_le n high ≡ true
+at_most n high h = grind (arith, nat_tests)
+
+at_most-is : (n high : ℕ) → nat_le n high ≡ true → n ≤ high
+at_most-is n high h = grind (arith, nat_tests)
+
+pub two_or_three-within : (n : ℕ) → ((n == 2) || (n == 3)) ≡ is_within 2 3 n
+two_or_three-within n = grind (arith, nat_tests)
+
+pub at_most-within : (n high : ℕ) → nat_le n high ≡ is_within 0 high n
+at_most-within n high = grind (arith, nat_tests)
+
+below-is : (n high : ℕ) → nat_lt n high ≡ true → n < high
+below-is n high h = grind (arith, nat_tests)
+
+both : (a b : Bool) → a ≡ true → b ≡ true → (a && b) ≡ true
+both a b e f = grind arith
+
+both-first : (a b : Bool) → (a && b) ≡ true → a ≡ true
+both-first a b e = grind arith
+
+both-second : (a b : Bool) → (a && b) ≡ true → b ≡ true
+both-second a b e = grind arith
+
+log_cases : (n : ℕ) → IsWithin 6 12 n → (n ≡ 6) ⊎ ((n ≡ 7) ⊎ ((n ≡ 8) ⊎ ((n ≡ 9) ⊎ ((n ≡ 10) ⊎ ((n ≡ 11) ⊎ ((n ≡ 12)))))))
+log_cases n h = grind arith
+
+size_cases : (n : ℕ) → is_poly_size n ≡ true → (n ≡ 64) ⊎ ((n ≡ 128) ⊎ ((n ≡ 256) ⊎ ((n ≡ 512) ⊎ ((n ≡ 1024) ⊎ ((n ≡ 2048) ⊎ ((n ≡ 4096)))))))
+size_cases n h = grind (arith, nat_tests)
+
+poly_size-power : (n : ℕ) → (n ≡ 6) ⊎ ((n ≡ 7) ⊎ ((n ≡ 8) ⊎ ((n ≡ 9) ⊎ ((n ≡ 10) ⊎ ((n ≡ 11) ⊎ ((n ≡ 12))))))) → is_poly_size (2 ^ n) ≡ true
+poly_size-power n (inl e) = ap (λ k. is_poly_size (2 ^ k)) e
+poly_size-power n (inr (inl e)) = ap (λ k. is_poly_size (2 ^ k)) e
+poly_size-power n (inr (inr (inl e))) = ap (λ k. is_poly_size (2 ^ k)) e
+poly_size-power n (inr (inr (inr (inl e)))) = ap (λ k. is_poly_size (2 ^ k)) e
+poly_size-power n (inr (inr (inr (inr (inl e))))) = ap (λ k. is_poly_size (2 ^ k)) e
+poly_size-power n (inr (inr (inr (inr (inr (inl e)))))) = ap (λ k. is_poly_size (2 ^ k)) e
+poly_size-power n (inr (inr (inr (inr (inr (inr e)))))) = ap (λ k. is_poly_size (2 ^ k)) e
+
+poly_size-log : (n : ℕ) → (n ≡ 64) ⊎ ((n ≡ 128) ⊎ ((n ≡ 256) ⊎ ((n ≡ 512) ⊎ ((n ≡ 1024) ⊎ ((n ≡ 2048) ⊎ ((n ≡ 4096))))))) → (log : ℕ) × IsWithin 6 12 log × (n ≡ 2 ^ log)
+poly_size-log n (inl e) = (6, (lit≤ tt, lit≤ tt), e)
+poly_size-log n (inr (inl e)) = (7, (lit≤ tt, lit≤ tt), e)
+poly_size-log n (inr (inr (inl e))) = (8, (lit≤ tt, lit≤ tt), e)
+poly_size-log n (inr (inr (inr (inl e)))) = (9, (lit≤ tt, lit≤ tt), e)
+poly_size-log n (inr (inr (inr (inr (inl e))))) = (10, (lit≤ tt, lit≤ tt), e)
+poly_size-log n (inr (inr (inr (inr (inr (inl e)))))) = (11, (lit≤ tt, lit≤ tt), e)
+poly_size-log n (inr (inr (inr (inr (inr (inr e)))))) = (12, (lit≤ tt, lit≤ tt), e)
+
+poly_size : (n : ℕ) → (log : ℕ) × IsWithin 6 12 log × (n ≡ 2 ^ log) → is_poly_size n ≡ true
+poly_size n h = ap is_poly_size h.2 ∙ poly_size-power h.0 (log_cases h.0 h.1)
+
+pub fields_pass : (p : Params) → FieldsInRange p → FieldsPass p
+fields_pass p f = record {
+  message_bits = two_or_three p.message_bits f.message_bits;
+  glwe_dim = within 1 4 p.glwe_dim f.glwe_dim;
+  poly_size = poly_size p.poly_size f.poly_size;
+  lwe_dim = within 1 1024 p.lwe_dim f.lwe_dim;
+  pbs_base_log = within 1 24 p.pbs_base_log f.pbs_base_log;
+  pbs_level =
+      both (is_within 1 30 p.pbs_level) (nat_le (p.pbs_base_log * p.pbs_level) 60) (within 1 30 p.pbs_level f.pbs_level.0)
+      (at_most (p.pbs_base_log * p.pbs_level) 60 f.pbs_level.1);
+  ks_base_log = within 1 24 p.ks_base_log f.ks_base_log;
+  ks_level =
+      both (is_within 1 30 p.ks_level) (nat_le (p.ks_base_log * p.ks_level) 60) (within 1 30 p.ks_level f.ks_level.0)
+      (at_most (p.ks_base_log * p.ks_level) 60 f.ks_level.1);
+  glwe_bound = at_most p.glwe_bound 40 f.glwe_bound;
+  lwe_bound = at_most p.lwe_bound 40 f.lwe_bound;
+}
+
+pub pass_fields : (p : Params) → FieldsPass p → FieldsInRange p
+pass_fields p f = record {
+  message_bits = two_or_three-is p.message_bits f.message_bits;
+  glwe_dim = within-is 1 4 p.glwe_dim f.glwe_dim;
+  poly_size = poly_size-log p.poly_size (size_cases p.poly_size f.poly_size);
+  lwe_dim = within-is 1 1024 p.lwe_dim f.lwe_dim;
+  pbs_base_log = within-is 1 24 p.pbs_base_log f.pbs_base_log;
+  pbs_level = (
+    within-is 1 30 p.pbs_level (both-first (is_within 1 30 p.pbs_level) (nat_le (p.pbs_base_log * p.pbs_level) 60) f.pbs_level),
+    at_most-is (p.pbs_base_log * p.pbs_level) 60 (both-second (is_within 1 30 p.pbs_level) (nat_le (p.pbs_base_log * p.pbs_level) 60) f.pbs_level),
+  );
+  ks_base_log = within-is 1 24 p.ks_base_log f.ks_base_log;
+  ks_level = (
+    within-is 1 30 p.ks_level (both-first (is_within 1 30 p.ks_level) (nat_le (p.ks_base_log * p.ks_level) 60) f.ks_level),
+    at_most-is (p.ks_base_log * p.ks_level) 60 (both-second (is_within 1 30 p.ks_level) (nat_le (p.ks_base_log * p.ks_level) 60) f.ks_level),
+  );
+  glwe_bound = at_most-is p.glwe_bound 40 f.glwe_bound;
+  lwe_bound = at_most-is p.lwe_bound 40 f.lwe_bound;
+}
+
+-- the first field whose test fails is the refusal
+pub refused-message_bits : (p : Params) → ((p.message_bits == 2) || (p.message_bits == 3)) ≡ false → refusal_of p ≡ Some (Limit 1 p.message_bits)
+unfolding refusal_of
+refused-message_bits p e1 = rw e1 refl
+
+pub refused-glwe_dim : (p : Params) → ((p.message_bits == 2) || (p.message_bits == 3)) ≡ true → is_within 1 4 p.glwe_dim ≡ false →
+    refusal_of p ≡ Some (Limit 2 p.glwe_dim)
+unfolding refusal_of
+refused-glwe_dim p e1 e2 = rw (e1, e2) refl
+
+pub refused-poly_size : (p : Params) → ((p.message_bits == 2) || (p.message_bits == 3)) ≡ true → is_within 1 4 p.glwe_dim ≡ true → is_poly_size p.poly_size ≡ false →
+    refusal_of p ≡ Some (Limit 3 p.poly_size)
+unfolding refusal_of
+refused-poly_size p e1 e2 e3 = rw (e1, e2, e3) refl
+
+pub refused-lwe_dim : (p : Params) → ((p.message_bits == 2) || (p.message_bits == 3)) ≡ true → is_within 1 4 p.glwe_dim ≡ true → is_poly_size p.poly_size ≡ true → is_within 1 1024 p.lwe_dim ≡ false →
+    refusal_of p ≡ Some (Limit 4 p.lwe_dim)
+unfolding refusal_of
+refused-lwe_dim p e1 e2 e3 e4 = rw (e1, e2, e3, e4) refl
+
+pub refused-pbs_base_log : (p : Params) → ((p.message_bits == 2) || (p.message_bits == 3)) ≡ true → is_within 1 4 p.glwe_dim ≡ true → is_poly_size p.poly_size ≡ true → is_within 1 1024 p.lwe_dim ≡ true → is_within 1 24 p.pbs_base_log ≡ false →
+    refusal_of p ≡ Some (Limit 5 p.pbs_base_log)
+unfolding refusal_of
+refused-pbs_base_log p e1 e2 e3 e4 e5 = rw (e1, e2, e3, e4, e5) refl
+
+pub refused-pbs_level : (p : Params) → ((p.message_bits == 2) || (p.message_bits == 3)) ≡ true → is_within 1 4 p.glwe_dim ≡ true → is_poly_size p.poly_size ≡ true → is_within 1 1024 p.lwe_dim ≡ true → is_within 1 24 p.pbs_base_log ≡ true → (is_within 1 30 p.pbs_level && nat_le (p.pbs_base_log * p.pbs_level) 60) ≡ false →
+    refusal_of p ≡ Some (Limit 6 p.pbs_level)
+unfolding refusal_of
+refused-pbs_level p e1 e2 e3 e4 e5 e6 = rw (e1, e2, e3, e4, e5, e6) refl
+
+pub refused-ks_base_log : (p : Params) → ((p.message_bits == 2) || (p.message_bits == 3)) ≡ true → is_within 1 4 p.glwe_dim ≡ true → is_poly_size p.poly_size ≡ true → is_within 1 1024 p.lwe_dim ≡ true → is_within 1 24 p.pbs_base_log ≡ true → (is_within 1 30 p.pbs_level && nat_le (p.pbs_base_log * p.pbs_level) 60) ≡ true → is_within 1 24 p.ks_base_log ≡ false →
+    refusal_of p ≡ Some (Limit 7 p.ks_base_log)
+unfolding refusal_of
+refused-ks_base_log p e1 e2 e3 e4 e5 e6 e7 = rw (e1, e2, e3, e4, e5, e6, e7) refl
+
+pub refused-ks_level : (p : Params) → ((p.message_bits == 2) || (p.message_bits == 3)) ≡ true → is_within 1 4 p.glwe_dim ≡ true → is_poly_size p.poly_size ≡ true → is_within 1 1024 p.lwe_dim ≡ true → is_within 1 24 p.pbs_base_log ≡ true → (is_within 1 30 p.pbs_level && nat_le (p.pbs_base_log * p.pbs_level) 60) ≡ true → is_within 1 24 p.ks_base_log ≡ true → (is_within 1 30 p.ks_level && nat_le (p.ks_base_log * p.ks_level) 60) ≡ false →
+    refusal_of p ≡ Some (Limit 8 p.ks_level)
+unfolding refusal_of
+refused-ks_level p e1 e2 e3 e4 e5 e6 e7 e8 = rw (e1, e2, e3, e4, e5, e6, e7, e8) refl
+
+pub refused-glwe_bound : (p : Params) → ((p.message_bits == 2) || (p.message_bits == 3)) ≡ true → is_within 1 4 p.glwe_dim ≡ true → is_poly_size p.poly_size ≡ true → is_within 1 1024 p.lwe_dim ≡ true → is_within 1 24 p.pbs_base_log ≡ true → (is_within 1 30 p.pbs_level && nat_le (p.pbs_base_log * p.pbs_level) 60) ≡ true → is_within 1 24 p.ks_base_log ≡ true → (is_within 1 30 p.ks_level && nat_le (p.ks_base_log * p.ks_level) 60) ≡ true → nat_le p.glwe_bound 40 ≡ false →
+    refusal_of p ≡ Some (Limit 9 p.glwe_bound)
+unfolding refusal_of
+refused-glwe_bound p e1 e2 e3 e4 e5 e6 e7 e8 e9 = rw (e1, e2, e3, e4, e5, e6, e7, e8, e9) refl
+
+pub refused-lwe_bound : (p : Params) → ((p.message_bits == 2) || (p.message_bits == 3)) ≡ true → is_within 1 4 p.glwe_dim ≡ true → is_poly_size p.poly_size ≡ true → is_within 1 1024 p.lwe_dim ≡ true → is_within 1 24 p.pbs_base_log ≡ true → (is_within 1 30 p.pbs_level && nat_le (p.pbs_base_log * p.pbs_level) 60) ≡ true → is_within 1 24 p.ks_base_log ≡ true → (is_within 1 30 p.ks_level && nat_le (p.ks_base_log * p.ks_level) 60) ≡ true → nat_le p.glwe_bound 40 ≡ true → nat_le p.lwe_bound 40 ≡ false →
+    refusal_of p ≡ Some (Limit 10 p.lwe_bound)
+unfolding refusal_of
+refused-lwe_bound p e1 e2 e3 e4 e5 e6 e7 e8 e9 e10 = rw (e1, e2, e3, e4, e5, e6, e7, e8, e9, e10) refl
+
+-- where all fields pass, the size of a key, the box and the noise decide
+passed : (p : Params) → FieldsPass p → refusal_of p ≡ first_of (if nat_le (key_words p) (2 ^ 24) then None else Some (Limit 11 (key_words p))) (first_of (box_refusal p) (noise_refusal p))
+unfolding refusal_of
+passed p f = rw (f.message_bits, f.glwe_dim, f.poly_size, f.lwe_dim, f.pbs_base_log, f.pbs_level, f.ks_base_log, f.ks_level, f.glwe_bound, f.lwe_bound) refl
+
+pub refused-key : (p : Params) → FieldsInRange p → 2 ^ 24 < key_words p → refusal_of p ≡ Some (Limit 11 (key_words p))
+refused-key p f h =
+    let e : nat_le (key_words p) (2 ^ 24) ≡ false = grind (arith, nat_tests) in
+    passed p (fields_pass p f) ∙ rw e refl
+
+pub refused-box : (p : Params) → FieldsInRange p → key_words p ≤ 2 ^ 24 → p.poly_size < 2 * plaintexts p.message_bits →
+    refusal_of p ≡ Some (NarrowBox p.poly_size (plaintexts p.message_bits))
+refused-box p f k h =
+    let e : nat_le (key_words p) (2 ^ 24) ≡ true = grind (arith, nat_tests) in
+    let n : nat_le (2 * plaintexts p.message_bits) p.poly_size ≡ false = grind (arith, nat_tests) in
+    passed p (fields_pass p f) ∙ rw (e, n) refl
+
+pub refused-noise : (p : Params) → FieldsInRange p → key_words p ≤ 2 ^ 24 → 2 * plaintexts p.message_bits ≤ p.poly_size → right_of p ≤ left_of p →
+    refusal_of p ≡ Some (Noise (left_of p) (right_of p))
+refused-noise p f k w h =
+    let e : nat_le (key_words p) (2 ^ 24) ≡ true = grind (arith, nat_tests) in
+    let n : nat_le (2 * plaintexts p.message_bits) p.poly_size ≡ true = grind (arith, nat_tests) in
+    let l : nat_lt (left_of p) (right_of p) ≡ false = grind (arith, nat_tests) in
+    passed p (fields_pass p f) ∙ rw (e, n, l) refl
+
+pub accepts-refusal_of : (p : Params) → Accepts p → refusal_of p ≡ None
+accepts-refusal_of p a =
+    let k : key_words p ≤ 2 ^ 24 = a.key in
+    let w : 2 * plaintexts p.message_bits ≤ p.poly_size = a.wide in
+    let b : left_of p < right_of p = a.below in
+    let e : nat_le (key_words p) (2 ^ 24) ≡ true = grind (arith, nat_tests) in
+    let n : nat_le (2 * plaintexts p.message_bits) p.poly_size ≡ true = grind (arith, nat_tests) in
+    let l : nat_lt (left_of p) (right_of p) ≡ true = grind (arith, nat_tests) in
+    passed p (fields_pass p a.fields) ∙ rw (e, n, l) refl
+
+-- nothing refuses what is sound alone
+none-sound : (field n : ℕ) (b : Bool) (numbers : List (ℕ × Bool)) → first_outside field ((n, b) ∷ numbers) ≡ None →
+    (b ≡ true) × (first_outside (field + 1) numbers ≡ None)
+none-sound field n true numbers e = (refl, e)
+none-sound field n false numbers e = cc
+
+none-first : (a b : Option Refused) → first_of a b ≡ None → (a ≡ None) × (b ≡ None)
+none-first None b e = (refl, e)
+none-first (Some r) b e = cc
+
+none-unless : (b : Bool) (r : Refused) → (if b then None else Some r) ≡ None → b ≡ true
+none-unless true r e = refl
+none-unless false r e = cc
+
+pub refusal_of-accepts : (p : Params) → refusal_of p ≡ None → Accepts p
+unfolding refusal_of
+refusal_of-accepts p h =
+    let o = none-first (first_outside 1 (limited p)) (first_of (box_refusal p) (noise_refusal p)) h in
+    let b = none-first (box_refusal p) (noise_refusal p) o.1 in
+    let t1 = none-sound 1 p.message_bits ((p.message_bits == 2) || (p.message_bits == 3)) (drop 1 (limited p)) o.0 in
+    let t2 = none-sound 2 p.glwe_dim (is_within 1 4 p.glwe_dim) (drop 2 (limited p)) t1.1 in
+    let t3 = none-sound 3 p.poly_size (is_poly_size p.poly_size) (drop 3 (limited p)) t2.1 in
+    let t4 = none-sound 4 p.lwe_dim (is_within 1 1024 p.lwe_dim) (drop 4 (limited p)) t3.1 in
+    let t5 = none-sound 5 p.pbs_base_log (is_within 1 24 p.pbs_base_log) (drop 5 (limited p)) t4.1 in
+    let t6 = none-sound 6 p.pbs_level (is_within 1 30 p.pbs_level && nat_le (p.pbs_base_log * p.pbs_level) 60) (drop 6 (limited p)) t5.1 in
+    let t7 = none-sound 7 p.ks_base_log (is_within 1 24 p.ks_base_log) (drop 7 (limited p)) t6.1 in
+    let t8 = none-sound 8 p.ks_level (is_within 1 30 p.ks_level && nat_le (p.ks_base_log * p.ks_level) 60) (drop 8 (limited p)) t7.1 in
+    let t9 = none-sound 9 p.glwe_bound (nat_le p.glwe_bound 40) (drop 9 (limited p)) t8.1 in
+    let t10 = none-sound 10 p.lwe_bound (nat_le p.lwe_bound 40) (drop 10 (limited p)) t9.1 in
+    let t11 = none-sound 11 (key_words p) (nat_le (key_words p) (2 ^ 24)) (drop 11 (limited p)) t10.1 in
+    record {
+      fields = pass_fields p (record {
+        message_bits = t1.0;
+        glwe_dim = t2.0;
+        poly_size = t3.0;
+        lwe_dim = t4.0;
+        pbs_base_log = t5.0;
+        pbs_level = t6.0;
+        ks_base_log = t7.0;
+        ks_level = t8.0;
+        glwe_bound = t9.0;
+        lwe_bound = t10.0;
+      });
+      key = at_most-is (key_words p) (2 ^ 24) t11.0;
+      wide = at_most-is (2 * plaintexts p.message_bits) p.poly_size (none-unless (nat_le (2 * plaintexts p.message_bits) p.poly_size) (NarrowBox p.poly_size (plaintexts p.message_bits)) b.0);
+      below = below-is (left_of p) (right_of p) (none-unless (nat_lt (left_of p) (right_of p)) (Noise (left_of p) (right_of p)) b.1);
+    }
+
+-- a set is accepted exactly where nothing refuses it
+pub accepted-unrefused : (p : Params) → (refusal_of p ≡ None) ↔ Accepts p
+accepted-unrefused p = (refusal_of-accepts p, accepts-refusal_of p)
+
+pub checked-accepted : (p : Params) → Accepts p → checked p ≡ Ok (bounds_of p)
+checked-accepted p a = ap (λ r. answered r (bounds_of p)) (accepts-refusal_of p a)
+
+pub checked-refused : (p : Params) (refused : Refused) → refusal_of p ≡ Some refused → checked p ≡ Err refused
+checked-refused p refused e = ap (λ r. answered r (bounds_of p)) e

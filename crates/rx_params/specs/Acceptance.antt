@@ -1,0 +1,85 @@
+-- Which sets are accepted, and the first reason where one is not.
+use Rattle.std.specs.Prelude.{ℕ, ◌+◌, ◌*◌, ◌^◌, ◌≡◌, ◌<◌, ◌≤◌, ◌⊎◌, ◌==◌, nat_le, nat_lt, ◌&&◌, ◌||◌, Bool, List, [], ◌∷◌, Option, Some, None, if◌then◌else◌, Result, Ok, Err}
+use Rattle.rx_laws.specs.Decode.{plaintexts}
+use Rattle.rx_params.specs.declared.params.Params.{Params}
+use Rattle.rx_params.specs.declared.bounds.Bounds.{Bounds}
+use Rattle.rx_params.specs.declared.bounds.Refused.{Refused}
+use Rattle.rx_params.specs.declared.bounds.Refused.TheVariants.{Limit, NarrowBox, Noise}
+use Rattle.rx_params.specs.Derived.{key_words, left_of, right_of, bounds_of}
+
+abbrev pub IsWithin : ℕ → ℕ → ℕ → Type 0
+IsWithin low high n = (low ≤ n) × (n ≤ high)
+
+-- each field is within its limit; the greatest size of a key stands apart
+pub record FieldsInRange (p : Params) : Type 0 where
+  pub message_bits : (p.message_bits ≡ 2) ⊎ (p.message_bits ≡ 3)
+  pub glwe_dim : IsWithin 1 4 p.glwe_dim
+  pub poly_size : (log : ℕ) × IsWithin 6 12 log × (p.poly_size ≡ 2 ^ log)
+  pub lwe_dim : IsWithin 1 1024 p.lwe_dim
+  pub pbs_base_log : IsWithin 1 24 p.pbs_base_log
+  pub pbs_level : IsWithin 1 30 p.pbs_level × (p.pbs_base_log * p.pbs_level ≤ 60)
+  pub ks_base_log : IsWithin 1 24 p.ks_base_log
+  pub ks_level : IsWithin 1 30 p.ks_level × (p.ks_base_log * p.ks_level ≤ 60)
+  pub glwe_bound : p.glwe_bound ≤ 40
+  pub lwe_bound : p.lwe_bound ≤ 40
+
+-- The set is accepted: all limits hold, a box of the table has two coefficients, and the greatest noise stays below half
+-- of the unit.
+pub record Accepts (p : Params) : Type 0 where
+  pub fields : FieldsInRange p
+  pub key : key_words p ≤ 2 ^ 24
+  pub wide : 2 * plaintexts p.message_bits ≤ p.poly_size
+  pub below : left_of p < right_of p
+
+abbrev pub is_within : ℕ → ℕ → ℕ → Bool
+is_within low high n = nat_le low n && nat_le n high
+
+abbrev pub is_poly_size : ℕ → Bool
+is_poly_size n =
+    (n == 64) || ((n == 128) || ((n == 256) || ((n == 512) || ((n == 1024) || ((n == 2048) || (n == 4096))))))
+
+-- the limited numbers, in the order of the fields and the size of a key last, and whether each is within its limit
+abbrev pub limited : Params → List (ℕ × Bool)
+limited p =
+    (p.message_bits, (p.message_bits == 2) || (p.message_bits == 3))
+    ∷ (p.glwe_dim, is_within 1 4 p.glwe_dim)
+    ∷ (p.poly_size, is_poly_size p.poly_size)
+    ∷ (p.lwe_dim, is_within 1 1024 p.lwe_dim)
+    ∷ (p.pbs_base_log, is_within 1 24 p.pbs_base_log)
+    ∷ (p.pbs_level, is_within 1 30 p.pbs_level && nat_le (p.pbs_base_log * p.pbs_level) 60)
+    ∷ (p.ks_base_log, is_within 1 24 p.ks_base_log)
+    ∷ (p.ks_level, is_within 1 30 p.ks_level && nat_le (p.ks_base_log * p.ks_level) 60)
+    ∷ (p.glwe_bound, nat_le p.glwe_bound 40)
+    ∷ (p.lwe_bound, nat_le p.lwe_bound 40)
+    ∷ (key_words p, nat_le (key_words p) (2 ^ 24))
+    ∷ []
+
+-- the first number that is outside its limit, by the place of its field, counted on from this one
+abbrev pub first_outside : ℕ → List (ℕ × Bool) → Option Refused
+first_outside field [] = None
+first_outside field (number ∷ numbers) =
+    if number.1 then first_outside (field + 1) numbers else Some (Limit field number.0)
+
+abbrev pub first_of : Option Refused → Option Refused → Option Refused
+first_of None second = second
+first_of (Some refused) second = Some refused
+
+abbrev pub box_refusal : Params → Option Refused
+box_refusal p =
+    if nat_le (2 * plaintexts p.message_bits) p.poly_size then None
+    else Some (NarrowBox p.poly_size (plaintexts p.message_bits))
+
+abbrev pub noise_refusal : Params → Option Refused
+noise_refusal p = if nat_lt (left_of p) (right_of p) then None else Some (Noise (left_of p) (right_of p))
+
+-- the first reason to refuse a set, none where it is accepted: a limit, then a narrow box, then the noise
+unfoldable pub refusal_of : Params → Option Refused
+refusal_of p = first_of (first_outside 1 (limited p)) (first_of (box_refusal p) (noise_refusal p))
+
+abbrev pub answered : Option Refused → Bounds → Result Bounds Refused
+answered None bounds = Ok bounds
+answered (Some refused) bounds = Err refused
+
+-- what the check of a set answers
+abbrev pub checked : Params → Result Bounds Refused
+checked p = answered (refusal_of p) (bounds_of p)

@@ -1,0 +1,5 @@
+pub mod Derived
+pub mod Acceptance
+pub mod Sets
+pub mod Kinds
+pub mod Text

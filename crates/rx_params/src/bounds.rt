@@ -1,0 +1,260 @@
+// The worst-case sums of a parameter set, and the check that it is accepted.
+ghost use Rattle.std.specs.Prelude.{◌≡◌, ◌↔◌, ℕ, ◌+◌, ◌*◌, ◌^◌, ◌<◌, ◌≤◌, ◌&&◌, IsOk, IfErr, IsTrue, Some, nat_le};
+ghost use Rattle.rx_params.specs.Derived.{key_words, left_of, right_of, bounds_of, large_dim, rest_of, step_of, boot_of, base_of, switch_of, round_of};
+ghost use Rattle.rx_params.specs.Acceptance.{Accepts, FieldsInRange, checked, refusal_of, is_within, is_poly_size};
+ghost use Rattle.rx_laws.specs.Decode.{plaintexts};
+
+use crate::Params;
+use thiserror::Error;
+
+/// The worst-case sums of a set, in units of 2^-64 of the torus.
+#[derive(Clone, Copy, Debug, PartialEq, Eq)]
+pub struct Bounds {
+    /// The noise that one turn of the bootstrap adds.
+    pub step: u128,
+    /// The noise of what a bootstrap gives.
+    pub boot: u128,
+    /// The noise of a block whose noise tag is 1.
+    pub base: u128,
+    /// The noise that the key switch adds.
+    pub switch: u128,
+    /// The noise that the rounding before the rotation adds.
+    pub round: u128,
+    /// The greatest noise that reaches the table.
+    pub left: u128,
+    /// What that noise has to stay below.
+    pub right: u128,
+}
+
+/// Why a set is not accepted.
+#[derive(Clone, Copy, Debug, PartialEq, Eq, Error)]
+pub enum Refused {
+    /// A field, by its place from 1 to 10, or the number of key words as field 11, is outside its limit.
+    #[error("field {field} is outside its limit with {value}")]
+    Limit { field: u32, value: u64 },
+    /// The polynomials have fewer than two coefficients for each of the `p` numbers of a block.
+    #[error("{n} coefficients are too few for {p} numbers")]
+    NarrowBox { n: u32, p: u32 },
+    /// The greatest noise is not below its limit.
+    #[error("the noise {left} is not below {right}")]
+    Noise { left: u128, right: u128 },
+}
+
+const MOST_KEY_WORDS: u64 = 0x100_0000;
+
+/// The worst-case sums of a set that is accepted, or the first reason why it is not: a limit, the fields in
+/// their order and the number of key words as field 11, then too few coefficients, then the noise.
+pub fn check(p: &Params) -> Result<Bounds, Refused>
+    ensures exact { result ≡ checked p.now }
+    ensures accepted { IsOk result ↔ Accepts p.now }
+{
+    check_fields(p)?;
+    check_key(p)?;
+    check_box(p)?;
+    let bounds = sums(p);
+    if bounds.left < bounds.right {
+        Ok(bounds)
+    } else {
+        Err(Refused::Noise {
+            left: bounds.left,
+            right: bounds.right,
+        })
+    }
+}
+
+impl Params {
+    ghost use Rattle.std.specs.Prelude.{◌↔◌, IsTrue};
+    ghost use Rattle.rx_params.specs.Acceptance.{FieldsInRange};
+
+    /// Whether each of the ten fields is within its limit, as the calls that take a set require.
+    pub fn is_in_range(&self) -> bool
+        ensures { IsTrue result ↔ FieldsInRange self.now }
+    {
+        check_fields(self).is_ok()
+    }
+}
+
+/// Tests the ten fields, in their order.
+fn check_fields(p: &Params) -> Result<(), Refused>
+    ensures in_range { IsOk result ↔ FieldsInRange p.now }
+    ensures first { IfErr result (λ refused. refusal_of p.now ≡ Some refused) }
+{
+    if !is_within(2, 3, p.message_bits) {
+        Err(outside(1, p.message_bits))
+    } else if !is_within(1, 4, p.glwe_dim) {
+        Err(outside(2, p.glwe_dim))
+    } else if !is_poly_size(p.poly_size) {
+        Err(outside(3, p.poly_size))
+    } else if !is_within(1, 1024, p.lwe_dim) {
+        Err(outside(4, p.lwe_dim))
+    } else if !is_within(1, 24, p.pbs_base_log) {
+        Err(outside(5, p.pbs_base_log))
+    } else if !are_digits(p.pbs_base_log, p.pbs_level) {
+        Err(outside(6, p.pbs_level))
+    } else if !is_within(1, 24, p.ks_base_log) {
+        Err(outside(7, p.ks_base_log))
+    } else if !are_digits(p.ks_base_log, p.ks_level) {
+        Err(outside(8, p.ks_level))
+    } else if !is_within(0, 40, p.glwe_bound) {
+        Err(outside(9, p.glwe_bound))
+    } else if !is_within(0, 40, p.lwe_bound) {
+        Err(outside(10, p.lwe_bound))
+    } else {
+        Ok(())
+    }
+}
+
+fn outside(field: u32, value: u32) -> Refused
+    ensures { result ≡ Refused.Limit field value }
+{
+    Refused::Limit {
+        field,
+        value: u64::from(value),
+    }
+}
+
+fn is_within(low: u32, high: u32, n: u32) -> bool
+    ensures { result ≡ is_within low high n }
+{
+    low <= n && n <= high
+}
+
+fn is_poly_size(n: u32) -> bool
+    ensures { result ≡ is_poly_size n }
+{
+    matches!(n, 64 | 128 | 256 | 512 | 1024 | 2048 | 4096)
+}
+
+/// Whether a word may have that many digits of that many bits.
+fn are_digits(base_log: u32, level: u32) -> bool
+    ensures { result ≡ (is_within 1 30 level && nat_le (base_log * level) 60) }
+{
+    is_within(1, 30, level) && base_log.saturating_mul(level) <= 60
+}
+
+/// Refuses a set whose server key has too many words.
+fn check_key(p: &Params) -> Result<(), Refused>
+    requires { FieldsInRange p.now }
+    ensures few { IsOk result ↔ (key_words p.now ≤ 2 ^ 24) }
+    ensures many { IfErr result (λ refused. refusal_of p.now ≡ Some refused) }
+{
+    let words = key_words(p);
+    if words <= MOST_KEY_WORDS {
+        Ok(())
+    } else {
+        Err(Refused::Limit {
+            field: 11,
+            value: words,
+        })
+    }
+}
+
+/// The words of a server key: those of the bootstrapping rows, and those of the switch rows.
+fn key_words(p: &Params) -> u64
+    requires { FieldsInRange p.now }
+    ensures { result ≡ key_words p.now }
+{
+    let row = u64::from((p.glwe_dim + 1) * p.poly_size);
+    let rows = u64::from(p.lwe_dim * (p.glwe_dim + 1) * p.pbs_level);
+    let switch_rows = u64::from(p.glwe_dim * p.poly_size * p.ks_level);
+    rows * row + switch_rows * u64::from(p.lwe_dim + 1)
+}
+
+/// Refuses a set with fewer than two coefficients for each number of a block.
+fn check_box(p: &Params) -> Result<(), Refused>
+    requires fields { FieldsInRange p.now }
+    requires key { key_words p.now ≤ 2 ^ 24 }
+    ensures wide { IsOk result ↔ (2 * plaintexts p.now.message_bits ≤ p.now.poly_size) }
+    ensures narrow { IfErr result (λ refused. refusal_of p.now ≡ Some refused) }
+{
+    let numbers = 1u32 << (2 * p.message_bits);
+    if 2 * numbers <= p.poly_size {
+        Ok(())
+    } else {
+        Err(Refused::NarrowBox {
+            n: p.poly_size,
+            p: numbers,
+        })
+    }
+}
+
+/// The worst-case sums.
+fn sums(p: &Params) -> Bounds
+    requires { FieldsInRange p.now }
+    ensures { result ≡ bounds_of p.now }
+{
+    let step = step(p);
+    let boot = u128::from(p.lwe_dim) * step;
+    let base = boot.max(two_to(p.glwe_bound));
+    let switch = switch(p);
+    let round = round(p);
+    Bounds {
+        step,
+        boot,
+        base,
+        switch,
+        round,
+        left: noise_limit(p) * base + switch + round,
+        right: two_to(62 - 2 * p.message_bits),
+    }
+}
+
+/// The greatest sum of noise tags that a lookup may be given.
+fn noise_limit(p: &Params) -> u128
+    requires { FieldsInRange p.now }
+    ensures value { result ≡ 2 ^ p.now.message_bits + 1 }
+    ensures bound { result ≤ 9 }
+{
+    two_to(p.message_bits) + 1
+}
+
+/// The noise that one turn of the bootstrap adds.
+fn step(p: &Params) -> u128
+    requires { FieldsInRange p.now }
+    ensures value { result ≡ step_of p.now }
+    ensures bound { result ≤ 2 ^ 84 }
+{
+    let rest = two_to(63 - p.pbs_base_log * p.pbs_level);
+    let products = u128::from((p.glwe_dim + 1) * p.pbs_level * p.poly_size);
+    let product = two_to(p.pbs_base_log - 1 + p.glwe_bound);
+    rest * (1 + large_dim(p)) + products * product
+}
+
+/// The noise that the key switch adds.
+fn switch(p: &Params) -> u128
+    requires { FieldsInRange p.now }
+    ensures value { result ≡ switch_of p.now }
+    ensures bound { result ≤ 2 ^ 84 }
+{
+    let rest = two_to(63 - p.ks_base_log * p.ks_level);
+    let products = u128::from(p.glwe_dim * p.poly_size * p.ks_level);
+    let product = two_to(p.ks_base_log - 1 + p.lwe_bound);
+    large_dim(p) * rest + products * product
+}
+
+/// The noise that the rounding before the rotation adds.
+fn round(p: &Params) -> u128
+    requires { FieldsInRange p.now }
+    ensures value { result ≡ round_of p.now }
+    ensures bound { result ≤ 2 ^ 73 }
+{
+    u128::from(p.lwe_dim + 1) * (two_to(62) / u128::from(p.poly_size))
+}
+
+/// The dimension of blocks.
+#[tactic(auto, unfolding(crate::specs::Derived::large_dim))]
+fn large_dim(p: &Params) -> u128
+    requires { FieldsInRange p.now }
+    ensures value { result ≡ large_dim p.now }
+    ensures bound { result ≤ 2 ^ 14 }
+{
+    u128::from(p.glwe_dim * p.poly_size)
+}
+
+fn two_to(exponent: u32) -> u128
+    requires { exponent ≤ 63 }
+    ensures value { result ≡ 2 ^ exponent }
+    ensures bound { result ≤ 2 ^ 63 }
+{
+    1 << exponent
+}
