@@ -1,0 +1,9 @@
+pub mod Files
+pub mod Counts
+pub mod StoreCalls
+pub mod SinkCalls
+pub mod MapFiles
+pub mod Memory
+pub mod Real
+pub mod Failed
+pub mod Codes
