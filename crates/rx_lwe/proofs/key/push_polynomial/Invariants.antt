@@ -1,0 +1,13 @@
+use Rattle.std.proofs.Common.{◌≡◌, ◌++◌, map}
+use Rattle.std.specs.List.{range_with_len}
+use Rattle.rx_torus.specs.Streams.{stream_of, drawn_by}
+use Rattle.rx_torus.specs.Kinds.{stream_number}
+use Rattle.rx_torus.specs.declared.kind.StreamKind.TheVariants.{LargeKey}
+use Rattle.rx_lwe.specs.Secret.{key_bit}
+use Rattle.rx_lwe.proofs.key.push_polynomial.Given as goal
+
+abbrev pub invariant-loop : goal.invariant-loop
+invariant-loop l = record {
+  stream : l.stream ≡ drawn_by l.counter (stream_of l.seed (stream_number LargeKey l.row));
+  bits : l.bits.items ≡ l.fn.bits.items ++ map (key_bit l.seed l.row) (range_with_len 0 l.counter);
+}

@@ -1,0 +1,2 @@
+pub mod Secret
+pub mod Lwe

@@ -1,0 +1,73 @@
+// Secret keys.
+ghost use Rattle.std.specs.Prelude.{◌≡◌, ◌<◌, ◌++◌, IfOk, OnOk, EachIndex, slice_index, length, map};
+ghost use Rattle.std.specs.List.{range_with_len};
+ghost use Rattle.rx_params.specs.Acceptance.{FieldsInRange};
+ghost use Rattle.rx_params.specs.Derived.{large_dim};
+ghost use Rattle.rx_lwe.specs.Secret.{large_key, key_bit};
+
+use rx_params::Params;
+use rx_torus::{Stream, StreamKind};
+use std::alloc::{AllocError, Global};
+use std::marker::Model;
+
+#[cfg(test)]
+mod tests;
+
+/// A secret key: one or more bits, each 0 or 1.
+#[derive(Drop)]
+pub struct SecretKey {
+    bits: Vec<u64>,
+}
+
+impl Model for SecretKey {
+    ghost use Rattle.std.specs.Prelude.{List, ℕ, ◌<◌, EachIndex, slice_index, length};
+
+    ghost Value = { List ℕ };
+
+    ghost view = { λ k. k.bits.items };
+
+    ghost invariant = { λ k. (0 < length k.bits.items)
+        × EachIndex k.bits.items (λ i. slice_index k.bits.items i < 2) };
+}
+
+impl SecretKey {
+    /// The large key of a seed: for each of the `glwe_dim` polynomials, `poly_size` bits of a stream of
+    /// its own.
+    pub fn large(alloc: Global, p: &Params, seed: &[u8; 32]) -> Result<SecretKey, AllocError>
+        requires { FieldsInRange p.now }
+        ensures key { IfOk result (λ key. key ≡ large_key p.now seed.now) }
+        ensures size { IfOk result (λ key. length key ≡ large_dim p.now) }
+    {
+        let mut bits = Vec::new(alloc);
+        for row in 0..p.glwe_dim {
+            push_polynomial(&mut bits, seed, row, p.poly_size)?;
+        }
+        Ok(SecretKey { bits })
+    }
+
+    /// The bits, in order.
+    pub fn bits(&self) -> &[u64]
+        ensures value { result.now ≡ self.now }
+        ensures some { 0 < length result.now }
+        ensures binary { EachIndex result.now (λ i. slice_index result.now i < 2) }
+    {
+        self.bits.as_slice()
+    }
+}
+
+// Adds the bits of one polynomial of the large key.
+fn push_polynomial(
+    bits: &mut Vec<u64>,
+    seed: &[u8; 32],
+    row: u32,
+    poly_size: u32,
+) -> Result<(), AllocError>
+    ensures { OnOk result
+        (bits.new.items ≡ bits.old.items ++ map (key_bit seed.now row) (range_with_len 0 poly_size)) }
+{
+    let mut stream = Stream::new(seed, StreamKind::LargeKey.stream_number(row));
+    for _ in 0..poly_size {
+        bits.push(stream.next_bit())?;
+    }
+    Ok(())
+}
