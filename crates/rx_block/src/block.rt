@@ -1,0 +1,21 @@
+// Blocks: ciphertexts with the tags that bound what they hold.
+use rx_torus::Words;
+
+/// A ciphertext of a number under the large key.
+#[derive(Debug, Drop)]
+pub struct Block {
+    /// The mask words and then the body.
+    pub words: Words,
+    /// A bound on the number.
+    pub degree: u8,
+    /// The noise is at most this times the base noise of the set.
+    pub noise: u8,
+}
+
+/// A block decodes to a number above its degree.
+#[derive(Clone, Copy, Debug, PartialEq, Eq, thiserror::Error)]
+#[error("decoded {decoded} above the degree {degree}")]
+pub struct Damaged {
+    pub decoded: u32,
+    pub degree: u8,
+}
