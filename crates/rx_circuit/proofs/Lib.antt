@@ -1,0 +1,4 @@
+pub mod Lines
+pub mod Loop
+pub mod RoundTrip
+pub mod Examples
