@@ -1,0 +1,199 @@
+-- The ciphertext file: what is read is spelled so, and what is spelled so is read.
+use Rattle.std.proofs.Common.{◌≡◌, ℕ, zero, suc, ◌+◌, ◌^◌, ◌≤◌, Bool, true, false, ◌||◌, leb, List, [], ◌∷◌, ◌++◌, length, Result, Ok, Err, refl, sym, ap, subst, ◌∙◌, append_assoc, arith}
+use Rattle.std.specs.Prelude.{IfOk, codes}
+use Rattle.std.specs.List.{flat_map, AllByRecursion}
+use Rattle.std.specs.Str.{bytes_eq}
+use Rattle.std.specs.Int.{w32, to_le_bytes}
+use Rattle.std.proofs.lemmas.Bool.{leb-true, le-leb}
+use Rattle.std.proofs.lemmas.Bool.Decides.{same_from_decides, Decides-like}
+use Rattle.std.proofs.lemmas.Slice.Eq.{bytes_eq-Decides}
+use Rattle.std.proofs.lemmas.List.{append-nil}
+use Rattle.std.proofs.lemmas.List.Folds.{list_any-append}
+use Rattle.std.proofs.lemmas.List.Concat.{flat_map-cons}
+use Rattle.rx_params.specs.declared.params.Params.{Params}
+use Rattle.rx_params.specs.Acceptance.{Accepts}
+use Rattle.rx_codec.specs.declared.cipher.Item.{Item}
+use Rattle.rx_codec.specs.declared.cipher.Cipher.{Cipher}
+use Rattle.rx_codec.specs.declared.fault.CodecFault.{CodecFault}
+use Rattle.rx_codec.specs.Reading.{◌>>=◌, Gives, number_at, in_range, magic_at, ends_at}
+use Rattle.rx_codec.specs.ParamsFields.{params_bytes, params_at}
+use Rattle.rx_codec.specs.CipherFile.{has_item, item_bytes, cipher_bytes, IsItem, ItemsOnce, CipherFile, item_at, items_at, cipher_from}
+use Rattle.rx_codec.proofs.Accepted.{checked_accepts}
+use Rattle.rx_codec.proofs.Fields.{IsBytes, Stands, Stands-then, Stands-first, Stands-second, Stands-nothing, Stands-whole, whole-Stands, bind_ok, ok_is, wide32, number_takes, number_again, in_range_takes, magic_takes, magic_again, ends_takes, ends_again}
+use Rattle.rx_codec.proofs.Params.{params_takes, params_again}
+use Rattle.rx_codec.proofs.ItemFields.{item_takes, item_again}
+
+-- ---- names that stand once
+
+eq_symm : (a b : List ℕ) → bytes_eq a b ≡ bytes_eq b a
+eq_symm a b = same_from_decides (bytes_eq a b) (bytes_eq b a) (bytes_eq-Decides a b) (Decides-like (bytes_eq b a) sym sym (bytes_eq-Decides b a))
+
+or_false : (a b : Bool) → (a || b) ≡ false → (a ≡ false) × (b ≡ false)
+or_false true b e = absurd cc
+or_false false b e = (refl, e)
+
+-- no item of the list has a name of an earlier one
+abbrev AreNew : List Item → List Item → Type 0
+AreNew before items = AllByRecursion (λ i. has_item i.name before ≡ false) items
+
+new_one : (before : List Item) (f : Item) (name : List ℕ) → has_item name (before ++ f ∷ []) ≡ false → (has_item name before ≡ false) × (bytes_eq f.name name ≡ false)
+new_one before f name e =
+    let parts = or_false (has_item name before) (has_item name (f ∷ [])) (sym (list_any-append (λ (i : Item). bytes_eq i.name name) before (f ∷ [])) ∙ e) in
+    (parts.0, (or_false (bytes_eq f.name name) false parts.1).0)
+
+new_all : (before : List Item) (f : Item) (items : List Item) → AreNew (before ++ f ∷ []) items → (has_item f.name items ≡ false) × AreNew before items
+new_all before f [] h = (refl, tt)
+new_all before f (i ∷ items) h =
+    let first = new_one before f i.name h.0 in
+    let rest = new_all before f items h.1 in
+    let differs : bytes_eq i.name f.name ≡ false = eq_symm i.name f.name ∙ first.1 in
+    (rw (differs, rest.0) refl, (first.0, rest.1))
+
+still_new : (before : List Item) (f : Item) (items : List Item) → has_item f.name items ≡ false → AreNew before items → AreNew (before ++ f ∷ []) items
+still_new before f [] e h = tt
+still_new before f (i ∷ items) e h =
+    let parts = or_false (bytes_eq i.name f.name) (has_item f.name items) e in
+    let differs : bytes_eq f.name i.name ≡ false = eq_symm f.name i.name ∙ parts.0 in
+    let none : has_item i.name before ≡ false = h.0 in
+    (list_any-append (λ (j : Item). bytes_eq j.name i.name) before (f ∷ []) ∙ rw (none, differs) refl, still_new before f items parts.1 h.1)
+
+none_before : (items : List Item) → AreNew [] items
+none_before [] = tt
+none_before (i ∷ items) = (refl, none_before items)
+
+-- ---- lists of items
+
+record TakenItems (p : Params) (count : ℕ) (before : List Item) (file : List ℕ) (at : ℕ) (x : List Item × ℕ) : Type 0 where
+  more : List Item
+  value : x.0 ≡ before ++ more
+  there : Stands file at (flat_map item_bytes more) x.1
+  count-is : length more ≡ count
+  fits : AllByRecursion (IsItem p) more
+  new : AreNew before more
+  once : ItemsOnce more
+
+items_take : (p : Params) (count : ℕ) (before : List Item) (file : List ℕ) (at : ℕ) (x : List Item × ℕ) → IsBytes file → at ≤ length file → items_at p count before file at ≡ Ok x → TakenItems p count before file at x
+items_take p zero before file at x fits le e =
+    let value : List Item × ℕ = (before, at) in
+    subst (TakenItems p 0 before file at) (ok_is value x e)
+    (record { more = []; value = sym (append-nil before); there = Stands-nothing file at le; count-is = refl; fits = tt; new = tt; once = tt })
+items_take p (suc count) before file at x fits le e =
+    let a = bind_ok (item_at p before file at) (λ item. items_at p count (before ++ item.0 ∷ []) file item.1) x e in
+    let t = item_takes p before file at a.0 fits a.1 in
+    let r = items_take p count (before ++ a.0.0 ∷ []) file a.0.1 x fits t.there.within a.2 in
+    let new = new_all before a.0.0 r.more r.new in
+    record {
+      more = a.0.0 ∷ r.more;
+      value = r.value ∙ append_assoc before (a.0.0 ∷ []) r.more;
+      there = subst (λ (text : List ℕ). Stands file at text x.1) (sym (flat_map-cons item_bytes a.0.0 r.more))
+          (Stands-then file at (item_bytes a.0.0) a.0.1 (flat_map item_bytes r.more) x.1 t.there r.there);
+      count-is = ap suc r.count-is;
+      fits = (t.fits, r.fits);
+      new = (t.once, new.1);
+      once = (new.0, r.once);
+    }
+
+abbrev read_of : List Item → ℕ → Result (List Item × ℕ) CodecFault
+read_of items after = Ok (items, after)
+
+items_again : (p : Params) (items before : List Item) (file : List ℕ) (at after : ℕ) → Accepts p → AllByRecursion (IsItem p) items → AreNew before items → ItemsOnce items → Stands file at (flat_map item_bytes items) after → items_at p (length items) before file at ≡ Ok (before ++ items, after)
+items_again p [] before file at after accepted fits new once there =
+    let here : at ≡ after = omega (arith, there.end) in
+    ap (read_of before) here ∙ ap (λ (is : List Item). read_of is after) (sym (append-nil before))
+items_again p (i ∷ items) before file at after accepted fits new once there =
+    let text = item_bytes i in
+    let whole : Stands file at (text ++ flat_map item_bytes items) after = subst (λ (t : List ℕ). Stands file at t after) (flat_map-cons item_bytes i items) there in
+    let first = Stands-first file at text (flat_map item_bytes items) after whole in
+    let second = Stands-second file at text (flat_map item_bytes items) after whole in
+    ap (λ (r : Result (Item × ℕ) CodecFault). r >>= λ item. items_at p (length items) (before ++ item.0 ∷ []) file item.1) (item_again p before file at i (at + length text) accepted fits.0 new.0 first)
+    ∙ items_again p items (before ++ i ∷ []) file (at + length text) after accepted fits.1 (still_new before i items once.0 new.1) once.1 second
+    ∙ ap (λ (is : List Item). read_of is after) (append_assoc before (i ∷ []) items)
+
+-- ---- the whole file
+
+abbrev cipher_of : Params → List Item → Cipher
+cipher_of params items = record { params = params; items = items }
+
+-- the rest of a file, after its parameters, and after the number of items
+abbrev after_count : Params → List ℕ → ℕ × ℕ → Result Cipher CodecFault
+after_count p file count = items_at p count.0 [] file count.1 >>= λ items. ends_at file items.1 (cipher_of p items.0)
+
+abbrev after_params : List ℕ → Params × ℕ → Result Cipher CodecFault
+after_params file params = number_at w32 file params.1 >>= λ count. in_range (leb count.0 64) params.1 count >>= after_count params.0 file
+
+record TakenCipher (file : List ℕ) (c : Cipher) : Type 0 where
+  count : length c.items ≤ 64
+  items : AllByRecursion (IsItem c.params) c.items
+  once : ItemsOnce c.items
+  spelled : file ≡ cipher_bytes c
+  accepted : Accepts c.params
+
+cipher_takes : (file : List ℕ) (c : Cipher) → IsBytes file → cipher_from file ≡ Ok c → TakenCipher file c
+unfolding cipher_from
+cipher_takes file c fits e =
+    let magic = bind_ok (magic_at (codes "RXE1") file) (λ after. params_at file after >>= after_params file) c e in
+    let params = bind_ok (params_at file magic.0) (after_params file) c magic.2 in
+    let p = params.0.0 in
+    let number = bind_ok (number_at w32 file params.0.1) (λ count. in_range (leb count.0 64) params.0.1 count >>= after_count p file) c params.2 in
+    let count = bind_ok (in_range (leb number.0.0 64) params.0.1 number.0) (after_count p file) c number.2 in
+    let test = in_range_takes (leb number.0.0 64) params.0.1 number.0 count.0 count.1 in
+    let rest : after_count p file number.0 ≡ Ok c = ap (after_count p file) test.1 ∙ count.2 in
+    let items = bind_ok (items_at p number.0.0 [] file number.0.1) (λ items. ends_at file items.1 (cipher_of p items.0)) c rest in
+    let end = ends_takes file items.0.1 (cipher_of p items.0.0) c items.2 in
+    let t0 = magic_takes (codes "RXE1") file magic.0 magic.1 in
+    let t1 = params_takes file magic.0 params.0 fits t0.within params.1 in
+    let t2 = number_takes w32 (2 ^ 32) wide32 file params.0.1 number.0 fits number.1 in
+    let t3 = items_take p number.0.0 [] file number.0.1 items.0 fits t2.0.within items.1 in
+    let items-are : t3.more ≡ items.0.0 = sym t3.value in
+    let size : length t3.more ≡ number.0.0 = t3.count-is in
+    let e01 = Stands-then file 0 (codes "RXE1") magic.0 (params_bytes p) params.0.1 t0 t1.there in
+    let e02 = Stands-then file 0 (codes "RXE1" ++ params_bytes p) params.0.1 (to_le_bytes w32 number.0.0) number.0.1 e01 t2.0 in
+    let e03 = Stands-then file 0 (codes "RXE1" ++ params_bytes p ++ to_le_bytes w32 number.0.0) number.0.1 (flat_map item_bytes t3.more) items.0.1 e02 t3.there in
+    let whole : file ≡ cipher_bytes (cipher_of p t3.more) =
+    whole-Stands file _ items.0.1 e03 end.0
+    ∙ ap (λ (n : ℕ). codes "RXE1" ++ params_bytes p ++ to_le_bytes w32 n ++ flat_map item_bytes t3.more) (sym size) in
+    subst (TakenCipher file) (ap (cipher_of p) items-are ∙ end.1) (record {
+      count = omega (arith, size, leb-true _ _ test.0);
+      items = t3.fits;
+      once = t3.once;
+      spelled = whole;
+      accepted = checked_accepts p t1.bounds t1.checks;
+    })
+
+-- what is read is a ciphertext file
+pub cipher_spelled : (file : List ℕ) (c : Cipher) → IsBytes file → cipher_from file ≡ Ok c → CipherFile file c
+cipher_spelled file c fits e =
+    let t = cipher_takes file c fits e in
+    record { fits = record { accepted = t.accepted; count = t.count; items = t.items; once = t.once }; spelled = t.spelled }
+
+pub cipher_found : (file : List ℕ) (result : Result Cipher CodecFault) → IsBytes file → Gives (λ c. c) result (cipher_from file) → IfOk result (λ c. CipherFile file c)
+cipher_found file (Ok c) fits exact = cipher_spelled file c fits exact
+cipher_found file (Err fault) fits exact = tt
+
+-- a ciphertext file is read
+pub cipher_again : (file : List ℕ) (c : Cipher) → CipherFile file c → cipher_from file ≡ Ok c
+unfolding cipher_from
+cipher_again file c h =
+    let magic = codes "RXE1" in
+    let params = params_bytes c.params in
+    let count = to_le_bytes w32 (length c.items) in
+    let items = flat_map item_bytes c.items in
+    let whole : Stands file 0 (magic ++ params ++ count ++ items) (length file) = subst (λ (text : List ℕ). Stands file 0 text (length file)) h.spelled (Stands-whole file) in
+    let p3 = Stands-first file 0 (magic ++ params ++ count) items (length file) whole in
+    let s3 = Stands-second file 0 (magic ++ params ++ count) items (length file) whole in
+    let p2 = Stands-first file 0 (magic ++ params) count (0 + length (magic ++ params ++ count)) p3 in
+    let s2 = Stands-second file 0 (magic ++ params) count (0 + length (magic ++ params ++ count)) p3 in
+    let p1 = Stands-first file 0 magic params (0 + length (magic ++ params)) p2 in
+    let s1 = Stands-second file 0 magic params (0 + length (magic ++ params)) p2 in
+    let few : leb (length c.items) 64 ≡ true = le-leb _ _ h.fits.count in
+    ap (λ (r : Result ℕ CodecFault). r >>= λ after. params_at file after >>= after_params file) (magic_again magic file _ refl p1)
+    ∙ ap (λ (r : Result (Params × ℕ) CodecFault). r >>= after_params file) (params_again file _ c.params _ h.fits.accepted s1)
+    ∙ ap (λ (r : Result (ℕ × ℕ) CodecFault). r >>= λ n. in_range (leb n.0 64) (0 + length (magic ++ params)) n >>= after_count c.params file)
+    (number_again w32 (2 ^ 32) wide32 file _ (length c.items) _ s2 (omega (arith, h.fits.count)))
+    ∙ ap (λ (b : Bool). in_range b (0 + length (magic ++ params)) (length c.items, 0 + length (magic ++ params ++ count)) >>= after_count c.params file) few
+    ∙ ap (λ (r : Result (List Item × ℕ) CodecFault). r >>= λ is. ends_at file is.1 (cipher_of c.params is.0))
+    (items_again c.params c.items [] file _ (length file) h.fits.accepted h.fits.items (none_before c.items) h.fits.once s3)
+    ∙ ends_again file (length file) (cipher_of c.params c.items) refl
+
+pub cipher_only : (file : List ℕ) (result : Result Cipher CodecFault) (c : Cipher) → Gives (λ d. d) result (cipher_from file) → CipherFile file c → Gives (λ d. d) result (Ok c)
+cipher_only file result c exact h = subst (Gives (λ d. d) result) (cipher_again file c h) exact

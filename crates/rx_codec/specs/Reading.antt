@@ -1,0 +1,70 @@
+-- Reading a file field after field. A reading of something at a place gives it and the place after it, or the first fault.
+use Rattle.std.specs.Prelude.{ℕ, ◌+◌, ◌-◌, ◌≡◌, nat_le, List, length, slice_range, Bool, if◌then◌else◌, Result, Ok, Err}
+use Rattle.std.specs.Int.{Width, byte_len, from_le_bytes}
+use Rattle.std.specs.Str.{bytes_eq}
+use Rattle.rx_codec.specs.declared.fault.CodecFault.{CodecFault}
+use Rattle.rx_codec.specs.declared.fault.CodecFault.TheVariants.{Magic, Short, Long, Field, Params, Memory}
+
+-- one reading after another
+infixl 10 ◌>>=◌
+abbrev pub ◌>>=◌ : {A B : Type 0} → Result A CodecFault → (A → Result B CodecFault) → Result B CodecFault
+(Ok x) >>= f = f x
+(Err fault) >>= f = Err fault
+
+-- a field of that many bytes
+abbrev pub bytes_at : List ℕ → ℕ → ℕ → Result (List ℕ × ℕ) CodecFault
+bytes_at file count at =
+    if nat_le (at + count) (length file) then Ok (slice_range file at (at + count), at + count)
+    else Err (Short (at + count) (length file))
+
+-- a field that holds a number, the least byte first
+abbrev pub number_at : Width → List ℕ → ℕ → Result (ℕ × ℕ) CodecFault
+number_at width file at = do
+  bytes ← bytes_at file (byte_len width) at
+  Ok (from_le_bytes width bytes.0, bytes.1)
+
+-- a field whose value has to pass a test
+abbrev pub in_range : {A : Type 0} → Bool → ℕ → A → Result A CodecFault
+in_range passes at value = if passes then Ok value else Err (Field at)
+
+-- the first field of a file, which tells the format
+abbrev pub magic_at : List ℕ → List ℕ → Result ℕ CodecFault
+magic_at magic file = do
+  bytes ← bytes_at file 4 0
+  if bytes_eq bytes.0 magic then Ok bytes.1 else Err Magic
+
+-- the file ends at this place
+abbrev pub ends_at : {A : Type 0} → List ℕ → ℕ → A → Result A CodecFault
+ends_at file at value = if nat_le (length file) at then Ok value else Err (Long (length file - at))
+
+-- what a function answers, seen by a view, is what the reading gives, unless memory was wanted
+abbrev pub Fails : {B : Type 0} → CodecFault → Result B CodecFault → Type 0
+Fails Memory read = Unit {0}
+Fails Magic read = read ≡ Err Magic
+Fails (Short need have) read = read ≡ Err (Short need have)
+Fails (Long extra) read = read ≡ Err (Long extra)
+Fails (Field at) read = read ≡ Err (Field at)
+Fails (Params refused) read = read ≡ Err (Params refused)
+
+abbrev pub Gives : {A B : Type 0} → (A → B) → Result A CodecFault → Result B CodecFault → Type 0
+Gives view (Ok value) read = read ≡ Ok (view value)
+Gives view (Err fault) read = Fails fault read
+
+-- the same, where the reader stands at a place afterwards
+abbrev pub GivesAt : {A B : Type 0} → (A → B) → ℕ → Result A CodecFault → Result (B × ℕ) CodecFault → Type 0
+GivesAt view after (Ok value) read = read ≡ Ok (view value, after)
+GivesAt view after (Err fault) read = Fails fault read
+
+-- The same of a function that takes no memory: it answers what the reading gives.
+abbrev pub Answers : {A B : Type 0} → (A → B) → Result A CodecFault → Result B CodecFault → Type 0
+Answers view (Ok value) read = read ≡ Ok (view value)
+Answers view (Err fault) read = read ≡ Err fault
+
+abbrev pub AnswersAt : {A B : Type 0} → (A → B) → ℕ → Result A CodecFault → Result (B × ℕ) CodecFault → Type 0
+AnswersAt view after (Ok value) read = read ≡ Ok (view value, after)
+AnswersAt view after (Err fault) read = read ≡ Err fault
+
+-- a file, and the place in it where a reader stands
+pub record Cursor : Type 0 where
+  pub file : List ℕ
+  pub at : ℕ

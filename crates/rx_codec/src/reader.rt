@@ -1,0 +1,133 @@
+// Reading a file field after field. Each format is read by one `Reader`, which keeps the place and answers the faults.
+ghost use Rattle.std.specs.Prelude.{◌≡◌, ◌*◌, ◌<◌, ◌^◌, length, IfOk};
+ghost use Rattle.std.specs.Int.{w8, w32};
+ghost use Rattle.rx_codec.specs.Reading.{Answers, AnswersAt, GivesAt, bytes_at, number_at, in_range as field_in_range, magic_at, ends_at};
+ghost use Rattle.rx_codec.specs.WordFields.{words_at, words_in};
+
+use crate::CodecFault;
+use std::alloc::{AllocError, Global};
+use std::marker::Model;
+
+/// A file, and the place in it where the next field begins.
+#[derive(Drop)]
+pub struct Reader<'a> {
+    file: &'a [u8],
+    at: usize,
+}
+
+impl<'a> Model for Reader<'a> {
+    ghost use Rattle.std.specs.Prelude.{length, ◌≤◌};
+    ghost use Rattle.rx_codec.specs.Reading.{Cursor};
+
+    ghost Value = { Cursor };
+
+    ghost view = { λ r. record { file = r.file.now; at = r.at } };
+
+    ghost invariant = { λ r. r.at ≤ length r.file.now };
+}
+
+impl<'a> Reader<'a> {
+    /// A reader of a file, past the four bytes that tell its format.
+    pub fn after_magic(file: &'a [u8], magic: &[u8]) -> Result<Reader<'a>, CodecFault>
+        ensures value { Answers (λ reader. reader.at) result (magic_at magic.now file.now) }
+        ensures file { IfOk result (λ reader. reader.file ≡ file.now) }
+    {
+        let mut reader = Reader { file, at: 0 };
+        if reader.bytes(4)? != magic {
+            return Err(CodecFault::Magic);
+        }
+        Ok(reader)
+    }
+
+    /// The place of the next field.
+    pub fn at(&self) -> u64
+        ensures { result ≡ self.now.at }
+    {
+        self.at as u64
+    }
+
+    /// A field of so many bytes.
+    pub fn bytes(&mut self, count: usize) -> Result<&'a [u8], CodecFault>
+        requires { count < 2 ^ 32 }
+        ensures value { AnswersAt (λ bytes. bytes.now) self.new.at result (bytes_at self.old.file count self.old.at) }
+        ensures file { self.new.file ≡ self.old.file }
+    {
+        let end = self.at + count;
+        if end > self.file.len() {
+            return Err(CodecFault::Short {
+                need: end as u64,
+                have: self.file.len() as u64,
+            });
+        }
+        let bytes = &self.file[self.at..end];
+        self.at = end;
+        Ok(bytes)
+    }
+
+    /// A number of one byte.
+    pub fn u8(&mut self) -> Result<u8, CodecFault>
+        ensures value { AnswersAt (λ n. n) self.new.at result (number_at w8 self.old.file self.old.at) }
+        ensures file { self.new.file ≡ self.old.file }
+    {
+        let bytes = self.bytes(1)?;
+        Ok(bytes[0])
+    }
+
+    /// A number of four bytes.
+    pub fn u32(&mut self) -> Result<u32, CodecFault>
+        ensures value { AnswersAt (λ n. n) self.new.at result (number_at w32 self.old.file self.old.at) }
+        ensures file { self.new.file ≡ self.old.file }
+    {
+        let bytes = self.bytes(4)?;
+        Ok(u32::from_le_bytes([bytes[0], bytes[1], bytes[2], bytes[3]]))
+    }
+
+    /// A field of so many words of eight bytes.
+    #[tactic(auto, unfolding(crate::specs::WordFields::words_at))]
+    pub fn words(&mut self, alloc: Global, count: usize) -> Result<Vec<u64>, CodecFault>
+        requires { count < 2 ^ 24 }
+        ensures value { GivesAt (λ words. words.items) self.new.at result (words_at count self.old.file self.old.at) }
+        ensures file { self.new.file ≡ self.old.file }
+    {
+        let bytes = self.bytes(8 * count)?;
+        Ok(words_of(alloc, count, bytes)?)
+    }
+
+    /// The file ends where the reader stands.
+    pub fn end(&self) -> Result<(), CodecFault>
+        ensures { result ≡ ends_at self.now.file self.now.at tt }
+    {
+        if self.at < self.file.len() {
+            return Err(CodecFault::Long {
+                extra: (self.file.len() - self.at) as u64,
+            });
+        }
+        Ok(())
+    }
+}
+
+/// Whether the field that begins at this place has a value in its range.
+pub fn in_range(passes: bool, at: u64) -> Result<(), CodecFault>
+    ensures { result ≡ field_in_range passes at tt }
+{
+    if passes {
+        Ok(())
+    } else {
+        Err(CodecFault::Field { at })
+    }
+}
+
+/// The words that the bytes are.
+fn words_of(alloc: Global, count: usize, bytes: &[u8]) -> Result<Vec<u64>, AllocError>
+    requires { length bytes.now ≡ 8 * count }
+    ensures { IfOk result (λ words. words.items ≡ words_in count bytes.now) }
+{
+    let mut words = Vec::with_capacity(alloc, count)?;
+    for i in 0..count {
+        let word = &bytes[8 * i..8 * i + 8];
+        words.push(u64::from_le_bytes([
+            word[0], word[1], word[2], word[3], word[4], word[5], word[6], word[7],
+        ]))?;
+    }
+    Ok(words)
+}
