@@ -1,0 +1,3 @@
+pub mod Encrypt
+pub mod Decrypt
+pub mod Reads

@@ -1,0 +1,10 @@
+//! What a client does with its keys: it encrypts named numbers, and reads them again.
+#![tactic(auto)]
+
+mod decrypt;
+mod encrypt;
+#[cfg(test)]
+mod tests;
+
+pub use decrypt::{Damage, DecryptError, decrypt_items};
+pub use encrypt::{encrypt_values, wrong_width_in};
