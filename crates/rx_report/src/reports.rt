@@ -1,0 +1,124 @@
+// The lines of refusals.
+ghost use Rattle.std.specs.Prelude.{◌≡◌, ◌≤◌, IfOk, Some, codes};
+ghost use Rattle.rx_params.specs.declared.params.Params.{Params};
+ghost use Rattle.rx_report.specs.Reports.{too_long, malformed_text, not_accepted, malformed_binary, mismatch, wrong_width, damaged, cause_word, field_word};
+
+use crate::difference::Difference;
+use crate::{Kind, Refusal};
+use rx_client::Damage;
+use rx_codec::CodecFault;
+use rx_params::{LineCause, LineFault, Refused};
+use std::alloc::{AllocError, Global};
+
+/// A file that is longer than the limit, with its length in bytes.
+pub fn too_long(alloc: Global, name: &str, size: u64) -> Result<Refusal, AllocError>
+    ensures { IfOk result (λ refusal. refusal ≡ too_long name.now size) }
+{
+    let line = format!(in alloc; "limit file {name} {size}\n")?;
+    Ok(Refusal::new(Kind::Limit, line))
+}
+
+/// A text that has not its format.
+pub fn malformed_text(alloc: Global, name: &str, fault: LineFault) -> Result<Refusal, AllocError>
+    ensures { IfOk result (λ refusal. refusal ≡ malformed_text name.now fault) }
+{
+    let number = fault.line;
+    let cause = cause_word(fault.cause);
+    let line = format!(in alloc; "malformed {name} line {number} {cause}\n")?;
+    Ok(Refusal::new(Kind::Malformed, line))
+}
+
+fn cause_word(cause: LineCause) -> &'static str
+    ensures { result.now ≡ cause_word cause }
+{
+    match cause {
+        LineCause::Form => "form",
+        LineCause::Number => "number",
+        LineCause::Unknown => "unknown",
+        LineCause::Kind => "kind",
+        LineCause::Again => "again",
+        LineCause::Limit => "limit",
+    }
+}
+
+/// A set that is not accepted.
+pub fn not_accepted(alloc: Global, refused: Refused) -> Result<Refusal, AllocError>
+    ensures { IfOk result (λ refusal. refusal ≡ not_accepted refused) }
+{
+    let line = match refused {
+        Refused::Limit { field, value } => {
+            let word = field_word(field);
+            format!(in alloc; "refused limit {word} {value}\n")?
+        }
+        Refused::NarrowBox { n, p } => format!(in alloc; "refused box {n} {p}\n")?,
+        Refused::Noise { left, right } => format!(in alloc; "refused noise {left} {right}\n")?,
+    };
+    Ok(Refusal::new(Kind::NotAccepted, line))
+}
+
+/// The name of a field by its place from 1, `key_words` after the tenth.
+fn field_word(field: u32) -> &'static str
+    ensures { result.now ≡ field_word field }
+{
+    match field {
+        0 | 1 => "message_bits",
+        2 => "glwe_dim",
+        3 => "poly_size",
+        4 => "lwe_dim",
+        5 => "pbs_base_log",
+        6 => "pbs_level",
+        7 => "ks_base_log",
+        8 => "ks_level",
+        9 => "glwe_bound",
+        10 => "lwe_bound",
+        _ => "key_words",
+    }
+}
+
+/// A binary file that has not its format, or whose set is not accepted.
+pub fn malformed_binary(alloc: Global, name: &str, fault: CodecFault) -> Result<Refusal, AllocError>
+    ensures { IfOk result (λ refusal. malformed_binary name.now fault ≡ Some refusal) }
+{
+    let line = match fault {
+        CodecFault::Magic => format!(in alloc; "malformed {name} magic\n")?,
+        CodecFault::Short { need, have } => {
+            format!(in alloc; "malformed {name} short {need} {have}\n")?
+        }
+        CodecFault::Long { extra } => format!(in alloc; "malformed {name} long {extra}\n")?,
+        CodecFault::Field { at } => format!(in alloc; "malformed {name} field {at}\n")?,
+        CodecFault::Params(refused) => return not_accepted(alloc, refused),
+        CodecFault::Memory => return Err(AllocError),
+    };
+    Ok(Refusal::new(Kind::Malformed, line))
+}
+
+/// A file whose set differs from that of the first file.
+pub fn mismatch(alloc: Global, name: &str, difference: Difference) -> Result<Refusal, AllocError>
+    ensures { IfOk result (λ refusal. refusal ≡ mismatch name.now difference) }
+{
+    let field = field_word(difference.field);
+    let first = difference.first;
+    let other = difference.other;
+    let line = format!(in alloc; "mismatch {name} {field} {first} {other}\n")?;
+    Ok(Refusal::new(Kind::Mismatch, line))
+}
+
+/// A number whose bits are no multiple of the message bits.
+pub fn wrong_width(alloc: Global, name: &str, bits: u32) -> Result<Refusal, AllocError>
+    ensures { IfOk result (λ refusal. refusal ≡ wrong_width name.now bits) }
+{
+    let line = format!(in alloc; "inputs {name} width {bits}\n")?;
+    Ok(Refusal::new(Kind::Inputs, line))
+}
+
+/// A block that decodes to a number above its degree.
+pub fn damaged(alloc: Global, damage: &Damage) -> Result<Refusal, AllocError>
+    ensures { IfOk result (λ refusal. refusal ≡ damaged damage.now) }
+{
+    let name = damage.name.as_str();
+    let block = damage.block;
+    let decoded = damage.decoded;
+    let degree = damage.degree;
+    let line = format!(in alloc; "damaged {name} {block} {decoded} {degree}\n")?;
+    Ok(Refusal::new(Kind::Damaged, line))
+}
