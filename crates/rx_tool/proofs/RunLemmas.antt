@@ -1,0 +1,104 @@
+-- A run is its parts.
+use Rattle.std.proofs.Common.{◌≡◌, ◌≢◌, ℕ, List, [], refl, sym, ap, subst, ◌∙◌, inl, inr, Some, None, Option, IfSome, Err}
+use Rattle.std.specs.Option.{option_map}
+use Rattle.rx_store.specs.Files.{Files}
+use Rattle.rx_report.specs.declared.refusal.Kind.TheVariants.{Limit}
+use Rattle.rx_tool.specs.declared.command.Command.{Command}
+use Rattle.rx_tool.specs.declared.done.Stop.{Stop}
+use Rattle.rx_tool.specs.declared.done.Stop.TheVariants.{Refused, Read, Memory}
+use Rattle.rx_report.specs.Reports.{status_of, too_long, usage_line}
+use Rattle.rx_tool.specs.Commands.{reads_of, command_refusal, Does}
+use Rattle.rx_tool.specs.Got.{Got, whole, long, got_all, refuses, as_report, ReadsAll}
+use Rattle.rx_tool.specs.Left.{told_written, MadeFirst}
+use Rattle.rx_tool.specs.Answers.{Answers}
+use Rattle.rx_tool.specs.Parts as parts
+use Rattle.rx_tool.specs.Parts.{ReportGives, GivesUp, EndsShort, Performs, at_write, at_put}
+use Rattle.rx_tool.specs.Ran.{World, world, Stopped, IsGot, Ran, refused, unread, no_memory, stopped, out_of_memory, finished}
+use Rattle.rx_tool.proofs.WrittenLemmas.{all_made}
+
+is_some : (command : Command) → Some command ≢ None
+is_some command = λ e. cc
+
+-- a report is the end of a run that is refused, or it wants memory
+pub reported : (command : Option Command) (given : Got) (code status : ℕ) (line : List ℕ) (f0 f1 : Option Files) (r0 r1 w0 w1 : ℕ) (p0 p1 : Option (List ℕ)) (q0 q1 : ℕ) →
+    IsGot command f0 given → refuses command given ≡ Some (code, line) → f1 ≡ f0 → ReportGives code line p0 q0 p1 q1 status →
+    Ran command (world f0 r0 w0 p0 q0) (world f1 r1 w1 p1 q1) status
+reported command given code status line f0 f1 r0 r1 w0 w1 p0 p1 q0 q1 is refuse same (inl (code_is, prints)) =
+    refused given status line is (refuse ∙ ap (λ s. Some (s, line)) (sym code_is)) same prints
+reported command given code status line f0 f1 r0 r1 w0 w1 p0 p1 q0 q1 is refuse same (inr (eleven, silent)) =
+    subst (λ s. Ran command (world f0 r0 w0 p0 q0) (world f1 r1 w1 p1 q1) s) (sym eleven)
+    (no_memory (record { same_files = same; same_printed = silent }))
+
+module _ (command : Command) (status : ℕ) (f0 f1 : Option Files) (r0 r1 w0 w1 : ℕ) (p0 p1 : Option (List ℕ)) (q0 q1 : ℕ) (same : f1 ≡ f0) where
+  -- the reading did not give all files
+  gave_up_reading : (stop : Stop) → ReadsAll f0 (reads_of command) r0 r1 (Err stop) → GivesUp stop p0 q0 p1 q1 status →
+      Ran (Some command) (world f0 r0 w0 p0 q0) (world f1 r1 w1 p1 q1) status
+  gave_up_reading (Refused refusal) reads gives =
+      reported (Some command) (long reads.0 reads.1) (status_of Limit) status (too_long reads.0 reads.1).1 f0 f1 r0 r1 w0 w1 p0 p1 q0 q1
+      reads.3 refl same
+      (subst (λ r. ReportGives (status_of r.0) r.1 p0 q0 p1 q1 status) reads.2 gives)
+  gave_up_reading Read reads gives =
+      subst (λ s. Ran (Some command) (world f0 r0 w0 p0 q0) (world f1 r1 w1 p1 q1) s) (sym gives.0)
+      (unread (is_some command) (record { same_files = same; same_printed = gives.1 }) reads)
+  gave_up_reading Memory reads gives =
+      subst (λ s. Ran (Some command) (world f0 r0 w0 p0 q0) (world f1 r1 w1 p1 q1) s) (sym gives.0)
+      (no_memory (record { same_files = same; same_printed = gives.1 }))
+
+  pub gave_up_on : (names : List (List ℕ)) (stop : Stop) → names ≡ reads_of command → ReadsAll f0 names r0 r1 (Err stop) → GivesUp stop p0 q0 p1 q1 status → Ran (Some command) (world f0 r0 w0 p0 q0) (world f1 r1 w1 p1 q1) status
+  gave_up_on names stop is reads gives = gave_up_reading stop (subst (λ n. ReadsAll f0 n r0 r1 (Err stop)) is reads) gives
+
+  -- the command itself gave up
+  gave_up : (stop : Stop) (files : List (List ℕ)) → IfSome f0 (λ f. got_all (reads_of command) f ≡ whole files) → Answers command files (Err stop) → GivesUp stop p0 q0 p1 q1 status →
+      Ran (Some command) (world f0 r0 w0 p0 q0) (world f1 r1 w1 p1 q1) status
+  gave_up (Refused refusal) files is answers gives =
+      reported (Some command) (whole files) (status_of refusal.0) status refusal.1 f0 f1 r0 r1 w0 w1 p0 p1 q0 q1
+      is (ap (option_map as_report) answers) same gives
+  gave_up Read files is answers gives = absurd answers
+  gave_up Memory files is answers gives =
+      subst (λ s. Ran (Some command) (world f0 r0 w0 p0 q0) (world f1 r1 w1 p1 q1) s) (sym gives.0)
+      (no_memory (record { same_files = same; same_printed = gives.1 }))
+
+  pub gave_up_with : (given : List (List ℕ)) (stop : Stop) (files : List (List ℕ)) → given ≡ files → IfSome f0 (λ f. got_all (reads_of command) f ≡ whole files) → Answers command given (Err stop) → GivesUp stop p0 q0 p1 q1 status → Ran (Some command) (world f0 r0 w0 p0 q0) (world f1 r1 w1 p1 q1) status
+  gave_up_with given stop files same_given is answers gives = gave_up stop files is (subst (λ g. Answers command g (Err stop)) same_given answers) gives
+
+ended_short : (command : Command) (given : Got) (status : ℕ) (before after : World) →
+    IsGot (Some command) before.files given → refuses (Some command) given ≡ None →
+    Stopped (Some command) given before.files after.files before.printed after.printed →
+    EndsShort status before.write_faults after.write_faults before.print_faults after.print_faults →
+    Ran (Some command) before after status
+ended_short command given status before after is accepted stop (inl (four, rose)) =
+    subst (λ s. Ran (Some command) before after s) (sym four) (stopped given is accepted stop rose)
+ended_short command given status before after is accepted stop (inr eleven) =
+    subst (λ s. Ran (Some command) before after s) (sym eleven) (out_of_memory given is accepted stop)
+
+-- the command was done, and its files were written and its lines printed, or some of them
+pub performed : (command : Command) (status : ℕ) (files : List (List ℕ)) (writes : List (List ℕ × List ℕ)) (lines : List ℕ)
+    (f0 f1 f2 : Option Files) (r0 r2 w0 w1 w2 : ℕ) (p0 p2 : Option (List ℕ)) (q0 q2 : ℕ) → f1 ≡ f0 → w1 ≡ w0 →
+    IfSome f0 (λ f. got_all (reads_of command) f ≡ whole files) → command_refusal command files ≡ None → Does command files writes lines →
+    Performs writes lines f1 f2 w1 w2 p0 p2 q0 q2 status →
+    Ran (Some command) (world f0 r0 w0 p0 q0) (world f2 r2 w2 p2 q2) status
+performed command status files writes lines f0 f1 f2 r0 r2 w0 w1 w2 p0 p2 q0 q2 same_files same_faults is accepted does (parts.whole zero all put) =
+    subst (λ s. Ran (Some command) (world f0 r0 w0 p0 q0) (world f2 r2 w2 p2 q2) s) (sym zero)
+    (finished (whole files) is (ap (option_map as_report) accepted)
+    (record { writes = writes; lines = lines; does = does; wrote = all ∙ ap (told_written writes) same_files; put = put }))
+performed command status files writes lines f0 f1 f2 r0 r2 w0 w1 w2 p0 p2 q0 q2 same_files same_faults is accepted does (at_write made short first silent) =
+    ended_short command (whole files) status (world f0 r0 w0 p0 q0) (world f2 r2 w2 p2 q2) is (ap (option_map as_report) accepted)
+    (record { writes = writes; lines = lines; does = does; made = made; stands = subst (λ f. MadeFirst writes f f2 made) same_files first; put = inl silent })
+    (subst (λ w. EndsShort status w w2 q0 q2) same_faults short)
+performed command status files writes lines f0 f1 f2 r0 r2 w0 w1 w2 p0 p2 q0 q2 same_files same_faults is accepted does (at_put short all part) =
+    let whole_written : f2 ≡ told_written writes f0 = all ∙ ap (told_written writes) same_files in
+    ended_short command (whole files) status (world f0 r0 w0 p0 q0) (world f2 r2 w2 p2 q2) is (ap (option_map as_report) accepted)
+    (record { writes = writes; lines = lines; does = does; made = _; stands = all_made writes f0 f2 whole_written; put = inr (whole_written, part) })
+    (subst (λ w. EndsShort status w w2 q0 q2) same_faults short)
+
+no_names : (files : Option Files) → IsGot None files (whole [])
+no_names None = tt
+no_names (Some f) = refl
+
+-- words that are no command are reported, with nothing read
+pub usage_reported : (command : Option Command) (status : ℕ) (f : Option Files) (r w : ℕ) (p0 p1 : Option (List ℕ)) (q0 q1 : ℕ) →
+    None ≡ command → ReportGives 2 usage_line p0 q0 p1 q1 status →
+    Ran command (world f r w p0 q0) (world f r w p1 q1) status
+usage_reported command status f r w p0 p1 q0 q1 none gives =
+    subst (λ c. Ran c (world f r w p0 q0) (world f r w p1 q1) status) none
+    (reported None (whole []) 2 status usage_line f f r r w w p0 p1 q0 q1 (no_names f) refl refl gives)

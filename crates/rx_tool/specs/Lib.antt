@@ -1,0 +1,13 @@
+pub mod Words
+pub mod Sources
+pub mod Check
+pub mod MakeClient
+pub mod Encrypt
+pub mod Decrypt
+pub mod Commands
+pub mod Answers
+pub mod Got
+pub mod Left
+pub mod Ran
+pub mod Parts
+pub mod Told

@@ -1,0 +1,11 @@
+// What each command makes of the files that it reads. No command touches the store or the sink.
+mod check;
+mod client;
+mod decrypt;
+mod encrypt;
+mod parts;
+
+pub use check::check_set;
+pub use client::make_client;
+pub use decrypt::decrypt_numbers;
+pub use encrypt::encrypt_numbers;

@@ -1,0 +1,81 @@
+// What a command made: the files to write, in order, and the lines to print.
+ghost use Rattle.std.specs.Prelude.{◌≡◌, string_bytes};
+
+use rx_report::Refusal;
+use std::alloc::{AllocError, AllocFailed};
+use std::marker::Model;
+
+/// A file to be written.
+#[derive(Drop)]
+pub struct Output {
+    name: String,
+    bytes: Vec<u8>,
+}
+
+impl Model for Output {
+    ghost use Rattle.std.specs.Prelude.{List, ℕ, string_bytes};
+
+    ghost Value = { List ℕ × List ℕ };
+
+    ghost view = { λ o. (string_bytes o.name, o.bytes.items) };
+}
+
+impl Output {
+    /// A file of this name that is to have these bytes.
+    pub fn new(name: String, bytes: Vec<u8>) -> Output
+        ensures { result ≡ (string_bytes name, bytes.items) }
+    {
+        Output { name, bytes }
+    }
+
+    /// Its name.
+    pub fn name(&self) -> &str
+        ensures { result.now ≡ self.now.0 }
+    {
+        self.name.as_str()
+    }
+
+    /// Its whole bytes.
+    pub fn bytes(&self) -> &[u8]
+        ensures { result.now ≡ self.now.1 }
+    {
+        self.bytes.as_slice()
+    }
+}
+
+/// What a command made.
+#[derive(Drop)]
+pub struct Done {
+    pub writes: Vec<Output>,
+    pub lines: String,
+}
+
+/// Why a command did not come to its writes.
+#[derive(Drop)]
+pub enum Stop {
+    Refused(Refusal),
+    Read,
+    Memory,
+}
+
+impl From<AllocError> for Stop {
+    ghost use Rattle.std.specs.Prelude.{◌≡◌};
+    ghost use Rattle.rx_tool.specs.declared.done.Stop.TheVariants.{Memory};
+
+    ghost from_gives = { λ _ stop. stop ≡ Memory };
+
+    fn from(_: AllocError) -> Self {
+        Stop::Memory
+    }
+}
+
+impl<T: Drop> From<AllocFailed<T>> for Stop {
+    ghost use Rattle.std.specs.Prelude.{◌≡◌};
+    ghost use Rattle.rx_tool.specs.declared.done.Stop.TheVariants.{Memory};
+
+    ghost from_gives = { λ _ stop. stop ≡ Memory };
+
+    fn from(_: AllocFailed<T>) -> Self {
+        Stop::Memory
+    }
+}
