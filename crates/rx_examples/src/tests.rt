@@ -206,6 +206,7 @@ fn a_field_out_of_range_is_reported(rt: HostRuntime) -> Result<(), Fail> {
         (48, 33, 5, "malformed x field 48\n"),
         (49, 65, 5, "malformed x field 49\n"),
         (50, 2, 5, "malformed x field 50\n"),
+        (50, 1, 5, "malformed x field 51\n"),
         (51, 0, 5, "malformed x field 51\n"),
         (51, 7, 5, "malformed x field 51\n"),
         (51, 66, 5, "malformed x field 51\n"),
