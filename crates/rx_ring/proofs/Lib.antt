@@ -1,0 +1,17 @@
+pub mod Polynomial
+pub mod Rotation
+pub mod Congruence
+pub mod Parts
+pub mod Writes
+pub mod Glwe
+pub mod Hiding
+pub mod Noise
+pub mod Turn
+pub mod Box
+pub mod KeySwitch
+pub mod Marks
+pub mod BlindRotation
+pub mod Bootstrap
+pub mod TurnWords
+pub mod Combination
+mod Examples

@@ -1,0 +1,10 @@
+pub mod Polynomial
+pub mod Parts
+pub mod Glwe
+pub mod Accumulator
+pub mod Switch
+pub mod Keys
+pub mod Rotation
+pub mod Noise
+pub mod Laws
+pub mod BootstrapLaws
