@@ -1,0 +1,15 @@
+//! Kernels on polynomials modulo `X^N + 1` whose coefficients are words, modulo 2^64. A polynomial is a
+//! slice of its N coefficients, the coefficient of 1 first. Nothing here takes memory.
+#![tactic(auto)]
+
+mod boxes;
+mod products;
+mod rotations;
+mod sums;
+#[cfg(test)]
+mod tests;
+
+pub use boxes::accumulator;
+pub use products::{binary_product_add, product_add};
+pub use rotations::{rotate_into, turn_away_into};
+pub use sums::add_assign;
