@@ -64,7 +64,8 @@ fn a_row_of_a_kind_has_its_stream(rt: HostRuntime) {
 
 #[test]
 fn words_are_kept(rt: HostRuntime) -> Result<(), std::alloc::AllocError> {
-    let words = Words::from_vec(vec![in rt.alloc(); 5u64, 7]?);
+    let mut words = Words::from_vec(vec![in rt.alloc(); 5u64, 6]?);
+    words.as_mut_slice()[1] += 1;
     assert_eq!(rt; words.as_slice(), [5u64, 7].as_slice());
     assert_eq!(rt; words.into_vec().len(), 2);
     Ok(())

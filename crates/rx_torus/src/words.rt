@@ -1,5 +1,8 @@
 // Lists of torus words, which contracts see as lists.
 ghost use Rattle.std.specs.Prelude.{◌≡◌};
+ghost use Rattle.std.specs.Borrow.{Lends, Array, sem, u64 as word_type};
+ghost use Rattle.rx_torus.specs.contracts.words.Words.{the_row};
+ghost use Rattle.rx_torus.specs.Overwritten.{overwritten};
 
 use std::marker::Model;
 
@@ -38,5 +41,13 @@ impl Words {
         ensures { result.now ≡ self.now }
     {
         self.words.as_slice()
+    }
+
+    /// The words, to be written in place. They stay as many.
+    pub fn as_mut_slice(&mut self) -> &mut [u64]
+        ensures* writes { sem 𝓛 (Lends the_row (Array word_type 0) self.entry result (overwritten self.old)) }
+        ensures value { result.now ≡ self.old }
+    {
+        self.words.as_mut_slice()
     }
 }
