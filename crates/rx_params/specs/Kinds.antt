@@ -1,5 +1,5 @@
 -- Whole numbers and bits, as blocks.
-use Rattle.std.specs.Prelude.{ℕ, ◌-◌, ◌*◌, ◌/◌, ◌%◌, ◌^◌}
+use Rattle.std.specs.Prelude.{ℕ, ◌-◌, ◌*◌, ◌/◌, ◌%◌, ◌^◌, ◌==◌, nat_le, ◌&&◌, Bool}
 use Rattle.rx_params.specs.declared.kind.Kind.{Kind}
 use Rattle.rx_params.specs.declared.kind.Kind.TheVariants.{Int, Bit}
 
@@ -12,6 +12,11 @@ greatest Bit message_bits = 1
 abbrev pub block_count : Kind → ℕ → ℕ → ℕ
 block_count Int message_bits bits = bits / message_bits
 block_count Bit message_bits bits = 1
+
+-- whether a number of a kind may have so many bits
+abbrev pub is_form : ℕ → Kind → ℕ → Bool
+is_form message_bits Int bits = nat_le message_bits bits && (nat_le bits 64 && (bits % message_bits == 0))
+is_form message_bits Bit bits = bits == 1
 
 -- block i of a number: digit i to the base 2 ^ message_bits
 abbrev pub digit_at : ℕ → ℕ → ℕ → ℕ
