@@ -10,7 +10,12 @@ use Rattle.std.proofs.Math.Nat.{mul-le-mul_right}
 use Rattle.rx_params.specs.declared.params.Params.{Params}
 use Rattle.rx_params.specs.Derived.{large_dim}
 use Rattle.rx_params.specs.Acceptance.{FieldsInRange}
-use Rattle.rx_lwe.specs.Secret.{key_bit, large_key}
+use Rattle.rx_torus.specs.Streams.{torus_word}
+use Rattle.rx_lwe.specs.Secret.{key_bit, large_key, small_bit, small_key}
+
+-- bit i of a stream of a seed
+abbrev pub stream_bit : List ℕ → ℕ → ℕ → ℕ
+stream_bit seed number i = torus_word seed number i % 2
 
 -- one more bit of a row
 pub row-more : (f : ℕ → ℕ) (old xs : List ℕ) (n bit : ℕ) → xs ≡ old ++ map f (range_with_len 0 n) → bit ≡ f n →
@@ -72,3 +77,21 @@ large_key-is p seed xs rows all has =
 pub large_key-length : (p : Params) (seed : List ℕ) → length (large_key p seed) ≡ large_dim p
 unfolding large_key
 large_key-length p seed = length-map-range_with_len (λ u. key_bit seed (u / p.poly_size) (u % p.poly_size)) 0 (large_dim p)
+
+pub small_key-is : (p : Params) (seed old xs : List ℕ) → old ≡ [] → xs ≡ old ++ map (small_bit seed) (range_with_len 0 p.lwe_dim) →
+    xs ≡ small_key p seed
+unfolding small_key
+small_key-is p seed old xs none e = e ∙ ap (λ ys. ys ++ map (small_bit seed) (range_with_len 0 p.lwe_dim)) none
+
+pub small_key-length : (p : Params) (seed : List ℕ) → length (small_key p seed) ≡ p.lwe_dim
+unfolding small_key
+small_key-length p seed = length-map-range_with_len (small_bit seed) 0 p.lwe_dim
+
+pub small_key-bits : (p : Params) (seed xs : List ℕ) → xs ≡ small_key p seed → (u : ℕ) → u < length xs → get_or xs u 0 < 2
+unfolding small_key
+small_key-bits p seed xs e u below =
+    let n : ℕ = p.lwe_dim in
+    let count : length xs ≡ n = ap length e ∙ small_key-length p seed in
+    let here : get_or xs u 0 ≡ small_bit seed u =
+    ap (λ ys. get_or ys u 0) e ∙ get_or-map-range_with_len (small_bit seed) 0 n u u 0 (omega (arith, count)) (omega arith) in
+    omega (arith, here)

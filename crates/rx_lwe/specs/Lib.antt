@@ -1,2 +1,3 @@
 pub mod Secret
 pub mod Lwe
+pub mod SwitchKeys

@@ -1,9 +1,11 @@
 // Secret keys.
-ghost use Rattle.std.specs.Prelude.{◌≡◌, ◌<◌, ◌++◌, IfOk, OnOk, EachIndex, slice_index, length, map};
+ghost use Rattle.std.specs.Prelude.{◌≡◌, ◌<◌, ◌%◌, ◌++◌, IfOk, OnOk, EachIndex, slice_index, length, map};
 ghost use Rattle.std.specs.List.{range_with_len};
+ghost use Rattle.rx_torus.specs.Kinds.{stream_number};
+ghost use Rattle.rx_torus.specs.Streams.{torus_word};
 ghost use Rattle.rx_params.specs.Acceptance.{FieldsInRange};
 ghost use Rattle.rx_params.specs.Derived.{large_dim};
-ghost use Rattle.rx_lwe.specs.Secret.{large_key, key_bit};
+ghost use Rattle.rx_lwe.specs.Secret.{large_key, small_key};
 
 use rx_params::Params;
 use rx_torus::{Stream, StreamKind};
@@ -40,8 +42,19 @@ impl SecretKey {
     {
         let mut bits = Vec::new(alloc);
         for row in 0..p.glwe_dim {
-            push_polynomial(&mut bits, seed, row, p.poly_size)?;
+            push_bits(&mut bits, seed, StreamKind::LargeKey, row, p.poly_size)?;
         }
+        Ok(SecretKey { bits })
+    }
+
+    /// The small key of a seed: `lwe_dim` bits of one stream. The error is want of memory.
+    pub fn small(alloc: Global, p: &Params, seed: &[u8; 32]) -> Result<SecretKey, AllocError>
+        requires { FieldsInRange p.now }
+        ensures key { IfOk result (λ key. key ≡ small_key p.now seed.now) }
+        ensures size { IfOk result (λ key. length key ≡ p.now.lwe_dim) }
+    {
+        let mut bits = Vec::new(alloc);
+        push_bits(&mut bits, seed, StreamKind::SmallKey, 0, p.lwe_dim)?;
         Ok(SecretKey { bits })
     }
 
@@ -55,18 +68,20 @@ impl SecretKey {
     }
 }
 
-// Adds the bits of one polynomial of the large key.
-fn push_polynomial(
+// Adds the first bits of the stream of a row.
+fn push_bits(
     bits: &mut Vec<u64>,
     seed: &[u8; 32],
+    kind: StreamKind,
     row: u32,
-    poly_size: u32,
+    count: u32,
 ) -> Result<(), AllocError>
     ensures { OnOk result
-        (bits.new.items ≡ bits.old.items ++ map (key_bit seed.now row) (range_with_len 0 poly_size)) }
+        (bits.new.items
+        ≡ bits.old.items ++ map (λ i. torus_word seed.now (stream_number kind row) i % 2) (range_with_len 0 count)) }
 {
-    let mut stream = Stream::new(seed, StreamKind::LargeKey.stream_number(row));
-    for _ in 0..poly_size {
+    let mut stream = Stream::new(seed, kind.stream_number(row));
+    for _ in 0..count {
         bits.push(stream.next_bit())?;
     }
     Ok(())

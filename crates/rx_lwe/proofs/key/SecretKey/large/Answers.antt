@@ -9,7 +9,7 @@ loop-row-preserved c =
     let n : ℕ = c.args.p.now.poly_size in
     let seed : List ℕ = c.args.seed.now in
     let P : List ℕ → Type 0 = λ xs. HasRows n (c.loop-row.row + 1) (key_bit seed) xs in
-    subst P (sym c.in_ok-push_polynomial.ensures)
+    subst P (sym c.in_ok-push_bits.ensures)
     (HasRows-more n c.loop-row.row (key_bit seed) c.loop-row.bits.items c.loop-row.invariant)
 
 pub returns-clause-key : goal.returns-clause-key

@@ -1,0 +1,15 @@
+// Sums of words with a weight.
+ghost use Rattle.std.specs.Prelude.{◌≡◌, ◌+ℤ◌, ◌*ℤ◌, length};
+ghost use Rattle.rx_laws.specs.Words.{of_words, AreWords};
+
+/// Adds a weight times each of some words to the word at its place, modulo 2^64. There are as many words as
+/// places.
+pub fn add_scaled(acc: &mut [u64], weight: i64, words: &[u64])
+    requires { length words.now ≡ length acc.old }
+    ensures { AreWords (length acc.old) (λ i. of_words acc.old i +ℤ weight *ℤ of_words words.now i) acc.new }
+{
+    let factor = weight.cast_unsigned();
+    for i in 0..acc.len() {
+        acc[i] = acc[i].wrapping_add(factor.wrapping_mul(words[i]));
+    }
+}
