@@ -1,0 +1,6 @@
+pub mod MaskProducts
+pub mod LevelSums
+pub mod Columns
+pub mod Extractions
+pub mod Rows
+pub mod ExternalSums
