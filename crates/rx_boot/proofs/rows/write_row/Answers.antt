@@ -1,0 +1,10 @@
+use Rattle.rx_boot.proofs.Sizes.{some_coefficients}
+use Rattle.rx_boot.proofs.RowWords.{encrypted_row}
+use Rattle.rx_boot.proofs.rows.write_row.Goals as goal
+
+pub returns : goal.returns
+returns c =
+    encrypted_row c.args.p.now c.args.small.now c.args.large.now c.args.mask_seed.now c.args.noise_seed.now c.hide.new.hidden
+    c.encrypt_row_into.new.out c.new-mask.result c.new-noise.result c.args.row c.stream_number.result c.stream_number-2.result
+    (some_coefficients c.args.p.now c.requires.fields) c.stream_number.ensures c.stream_number-2.ensures c.new-mask.ensures c.new-noise.ensures
+    c.hide.ensures c.encrypt_row_into.ensures.row

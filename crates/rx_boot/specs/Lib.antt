@@ -1,0 +1,4 @@
+pub mod BootKeys
+pub mod ServerKeys
+pub mod Bootstrap
+pub mod Laws

@@ -1,0 +1,131 @@
+// Server keys.
+ghost use Rattle.std.specs.Prelude.{◌≡◌, ◌+◌, IfOk, length, take, drop};
+ghost use Rattle.rx_params.specs.Acceptance.{Accepts};
+ghost use Rattle.rx_lwe.specs.Secret.{small_key, large_key};
+ghost use Rattle.rx_lwe.specs.SwitchKeys.{switch_key, switch_size};
+ghost use Rattle.rx_boot.specs.BootKeys.{boot_size};
+ghost use Rattle.rx_boot.specs.ServerKeys.{IsServerKey, server_key};
+ghost use Rattle.rx_boot.specs.Laws.{ServerKeyLaws};
+
+use crate::BootKey;
+use rx_lwe::{SecretKey, SwitchKey};
+use rx_params::Params;
+use rx_torus::Words;
+use std::alloc::{AllocError, Global};
+use std::marker::Model;
+
+/// What a server evaluates with: an accepted set, a bootstrapping key and a switch key of that set.
+#[derive(Drop)]
+pub struct ServerKey {
+    params: Params,
+    boot: BootKey,
+    switch: SwitchKey,
+}
+
+impl Model for ServerKey {
+    ghost use Rattle.std.specs.Prelude.{◌≡◌, length};
+    ghost use Rattle.rx_params.specs.Acceptance.{Accepts};
+    ghost use Rattle.rx_lwe.specs.SwitchKeys.{switch_key};
+    ghost use Rattle.rx_boot.specs.BootKeys.{boot_size};
+    ghost use Rattle.rx_boot.specs.ServerKeys.{ServerWords};
+
+    ghost Value = { ServerWords };
+
+    ghost view = { λ k. record { params = k.params; boot = k.boot; switch = k.switch.words } };
+
+    ghost invariant = { λ k. Accepts k.params × (length k.boot ≡ boot_size k.params)
+        × (k.switch ≡ switch_key k.params k.switch.words) };
+}
+
+impl ServerKey {
+    /// The server key of a client: its secret bits and noises come from the client's seed, its masks from
+    /// the mask seed.
+    pub fn make(
+        alloc: Global,
+        p: &Params,
+        client_seed: &[u8; 32],
+        mask_seed: &[u8; 32],
+    ) -> Result<ServerKey, AllocError>
+        requires { Accepts p.now }
+        ensures made { IfOk result (λ key. key ≡ server_key p.now client_seed.now mask_seed.now) }
+        ensures near { IfOk
+            result
+            (λ key. IsServerKey (small_key p.now client_seed.now) (large_key p.now client_seed.now) key) }
+    {
+        let small = SecretKey::small(alloc, p, client_seed)?;
+        let large = SecretKey::large(alloc, p, client_seed)?;
+        Ok(ServerKey {
+            params: *p,
+            boot: BootKey::make(alloc, p, &small, &large, mask_seed, client_seed)?,
+            switch: SwitchKey::make(alloc, p, &large, &small, mask_seed, client_seed)?,
+        })
+    }
+
+    /// The server key of a set with these words: first the bootstrapping rows, then the switch rows.
+    pub fn of_words(alloc: Global, p: &Params, words: &[u64]) -> Result<ServerKey, AllocError>
+        requires accepted { Accepts p.now }
+        requires size { length words.now ≡ boot_size p.now + switch_size p.now }
+        ensures { IfOk result (λ key. key ≡ record {
+          params = p.now;
+          boot = take (boot_size p.now) words.now;
+          switch = drop (boot_size p.now) words.now;
+        }) }
+    {
+        let (boot, switch) = words.split_at(boot_words(p));
+        let boot = Words::from_vec(boot.to_vec(alloc)?);
+        let switch = Words::from_vec(switch.to_vec(alloc)?);
+        Ok(ServerKey::from_parts(p, boot, switch))
+    }
+
+    /// The server key of a set with these two lists of words, without a copy.
+    pub fn from_parts(p: &Params, boot: Words, switch: Words) -> ServerKey
+        requires accepted { Accepts p.now }
+        requires boot { length boot ≡ boot_size p.now }
+        requires switch { length switch ≡ switch_size p.now }
+        ensures { result ≡ record { params = p.now; boot = boot; switch = switch } }
+    {
+        ServerKey {
+            params: *p,
+            boot: BootKey::from_words(boot),
+            switch: SwitchKey::of_words(p, switch),
+        }
+    }
+
+    /// The set.
+    pub fn params(&self) -> &Params
+        ensures value { result.now ≡ self.now.params }
+        ensures accepted { Accepts result.now }
+    {
+        &self.params
+    }
+
+    /// The bootstrapping rows.
+    pub fn boot(&self) -> &BootKey
+        ensures value { result.now ≡ self.now.boot }
+        ensures size { length result.now ≡ boot_size self.now.params }
+    {
+        &self.boot
+    }
+
+    /// The switch rows.
+    pub fn switch(&self) -> &SwitchKey
+        ensures { result.now ≡ switch_key self.now.params self.now.switch }
+    {
+        &self.switch
+    }
+}
+
+/// The server key of a client's seed is one of the secret that the seed makes, and has the sizes of its
+/// set.
+pub fn server_key_laws()
+    ensures { ServerKeyLaws }
+{}
+
+// How many words the bootstrapping rows of a set have.
+fn boot_words(p: &Params) -> usize
+    requires { Accepts p.now }
+    ensures { result ≡ boot_size p.now }
+{
+    let size = (p.glwe_dim as usize + 1) * p.poly_size as usize;
+    p.lwe_dim as usize * ((p.glwe_dim as usize + 1) * p.pbs_level as usize) * size
+}
