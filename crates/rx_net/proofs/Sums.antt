@@ -1,0 +1,67 @@
+-- Sums over terms.
+use Rattle.std.proofs.Common.{◌≡◌, ℕ, ℤ, pos, neg_ℤ, suc, ◌+◌, ◌*◌, ◌<◌, ◌≤◌, ◌+ℤ◌, ◌*ℤ◌, ◌≤ℤ◌, List, [], ◌∷◌, length, get_or, drop, sym, ◌∙◌, ap, arith, subst, drop-cons, add-one}
+use Rattle.std.proofs.lemmas.Int.{ints}
+use Rattle.std.proofs.lemmas.List.{drop_all}
+use Rattle.std.proofs.lemmas.List.Elements.{All-from_recursion}
+use Rattle.std.specs.List.{AllByRecursion}
+use Rattle.std.specs.Int.RustNames.{unsigned_abs}
+use Rattle.rx_net.specs.declared.term.Term.{Term}
+use Rattle.rx_net.specs.Tags.{sum_of, low_of, high_of, noise_of, negative_part, positive_part}
+
+pub sum_shift : (part : Term → ℤ) (k x : ℤ) (ts : List Term) → sum_of part (k +ℤ x) ts ≡ x +ℤ sum_of part k ts
+sum_shift part k x [] = omega (arith, ints)
+sum_shift part k x (t ∷ ts) = omega (arith, ints, sum_shift part k x ts)
+
+-- one term less
+pub sum_goes_on : (part : Term → ℤ) (k next : ℤ) (ts : List Term) (i : ℕ) (t : Term) → i < length ts → t ≡ get_or ts i t → next ≡ k +ℤ part t
+    → sum_of part next (drop (i + 1) ts) ≡ sum_of part k (drop i ts)
+sum_goes_on part k next ts i t p e n =
+    let d : drop i ts ≡ get_or ts i t ∷ drop (suc i) ts = drop-cons ts i t p in
+    let d' : drop i ts ≡ t ∷ drop (suc i) ts = d ∙ ap (λ x. x ∷ drop (suc i) ts) (sym e) in
+    rw (add-one, n) (sum_shift part k (part t) (drop (suc i) ts) ∙ sym (ap (sum_of part k) d'))
+
+pub sum_ends : (part : Term → ℤ) (k : ℤ) (ts : List Term) (i : ℕ) → length ts ≤ i → sum_of part k (drop i ts) ≡ k
+sum_ends part k ts i p = ap (sum_of part k) (drop_all i ts p)
+
+pub noise_goes_on : (noise : ℕ → ℕ) (ts : List Term) (i : ℕ) (t : Term) → i < length ts → t ≡ get_or ts i t
+    → noise_of noise (drop i ts) ≡ unsigned_abs t.weight * noise t.cell + noise_of noise (drop (i + 1) ts)
+noise_goes_on noise ts i t p e =
+    let d : drop i ts ≡ get_or ts i t ∷ drop (suc i) ts = drop-cons ts i t p in
+    rw add-one (ap (noise_of noise) (d ∙ ap (λ x. x ∷ drop (suc i) ts) (sym e)))
+
+pub noise_ends : (noise : ℕ → ℕ) (ts : List Term) (i : ℕ) → length ts ≤ i → noise_of noise (drop i ts) ≡ 0
+noise_ends noise ts i p = ap (noise_of noise) (drop_all i ts p)
+
+pub at_place : {A : Type 0} (P : A → Type 0) (xs : List A) (i : ℕ) (x : A) → AllByRecursion P xs → i < length xs → x ≡ get_or xs i x → P x
+at_place P xs i x h p e = subst P (sym e) (All-from_recursion P xs h i x p)
+
+-- the sums over the first terms, and their bounds
+pub record IsSummed (degree noise : ℕ → ℕ) (constant : ℤ) (ts : List Term) (i : ℕ) (low high : ℤ) (sum : ℕ) : Type 0 where
+  pub low_is : low_of degree low (drop i ts) ≡ low_of degree constant ts
+  pub high_is : high_of degree high (drop i ts) ≡ high_of degree constant ts
+  pub noise_is : sum + noise_of noise (drop i ts) ≡ noise_of noise ts
+  pub low_least : neg_ℤ (pos (32768 + 32640 * i)) ≤ℤ low
+  pub low_most : low ≤ℤ pos 32767
+  pub high_least : neg_ℤ (pos 32768) ≤ℤ high
+  pub high_most : high ≤ℤ pos (32767 + 32640 * i)
+  pub noise_most : sum ≤ 32640 * i
+
+pub summed_more : (degree noise : ℕ → ℕ) (constant : ℤ) (ts : List Term) (i : ℕ) (low high : ℤ) (sum : ℕ) → IsSummed degree noise constant ts i low high sum
+    → (t : Term) → i < length ts → t ≡ get_or ts i t → (w : ℤ) (d m : ℕ) → w ≡ t.weight → d ≡ degree t.cell → m ≡ noise t.cell → (a b : ℤ) (n : ℕ)
+    → a ≡ negative_part w *ℤ pos d → neg_ℤ (pos 32640) ≤ℤ a → a ≤ℤ pos 0
+    → b ≡ positive_part w *ℤ pos d → pos 0 ≤ℤ b → b ≤ℤ pos 32640
+    → n ≡ unsigned_abs w * m → n ≤ 32640
+    → (low' high' : ℤ) (sum' : ℕ) → low' ≡ low +ℤ a → high' ≡ high +ℤ b → sum' ≡ sum + n
+    → IsSummed degree noise constant ts (i + 1) low' high' sum'
+summed_more degree noise constant ts i low high sum h t p e w d m w_is d_is m_is a b n a_is a_low a_high b_is b_low b_high n_is n_high low' high' sum' x y z = record {
+  low_is = sum_goes_on (λ t. negative_part t.weight *ℤ pos (degree t.cell)) low low' ts i t p e (x ∙ ap (λ a. low +ℤ a) (a_is ∙ ap (λ w. negative_part w *ℤ pos d) w_is ∙ ap (λ d. negative_part t.weight *ℤ pos d) d_is)) ∙ h.low_is;
+  high_is = sum_goes_on (λ t. positive_part t.weight *ℤ pos (degree t.cell)) high high' ts i t p e (y ∙ ap (λ a. high +ℤ a) (b_is ∙ ap (λ w. positive_part w *ℤ pos d) w_is ∙ ap (λ d. positive_part t.weight *ℤ pos d) d_is)) ∙ h.high_is;
+  noise_is =
+      let n' : n ≡ unsigned_abs t.weight * noise t.cell = n_is ∙ ap (λ w. unsigned_abs w * m) w_is ∙ ap (λ m. unsigned_abs t.weight * m) m_is in
+      omega (arith, h.noise_is, noise_goes_on noise ts i t p e);
+  low_least = omega (arith, ints, h.low_least);
+  low_most = omega (arith, ints, h.low_most);
+  high_least = omega (arith, ints, h.high_least);
+  high_most = omega (arith, ints, h.high_most);
+  noise_most = omega (arith, h.noise_most);
+}

@@ -1,0 +1,88 @@
+// What the cells of a net hold, and how deep they are.
+ghost use Rattle.std.specs.Prelude.{◌≡◌, ◌⊎◌, ℤ, pos, neg_ℤ, ◌*ℤ◌, ◌≤ℤ◌, ◌+◌, ◌<◌, ◌≤◌, length, map, get_or, IfOk};
+ghost use Rattle.std.specs.List.{AllByRecursion};
+ghost use Rattle.rx_net.specs.Tags.{value_of, greatest_of, natural};
+ghost use Rattle.rx_net.specs.Cells.{Within, values_after, net_depth};
+ghost use Rattle.rx_net.specs.Legal.{Legal};
+
+use crate::net::Net;
+use crate::tags::input_cells;
+use crate::term::Term;
+use std::alloc::{AllocError, Global};
+
+/// The value of each cell of a legal net, for one value of each input cell, within its degree.
+pub fn plain(alloc: Global, net: &Net, inputs: &[u8]) -> Result<Vec<u8>, AllocError>
+    requires legal { Legal net.now }
+    requires within { Within net.now.space net.now.inputs inputs.now }
+    ensures { IfOk result (λ values. values.items ≡ values_after inputs.now net.now.jobs) }
+{
+    let mut values = Vec::from_slice(alloc, inputs)?;
+    for job in net.jobs.as_slice() {
+        let index = weighted_sum(&values, job.terms.as_slice(), job.constant);
+        values.push(entry_at(job.table.as_slice(), index))?;
+    }
+    Ok(values)
+}
+
+fn entry_at(table: &[u8], index: i32) -> u8
+    requires low { pos 0 ≤ℤ index }
+    requires high { natural index < length table.now }
+    ensures { result ≡ get_or table.now (natural index) 0 }
+{
+    table[index as usize]
+}
+
+/// The sum of a constant and of weight times value over the terms.
+fn weighted_sum(values: &[u8], terms: &[Term], constant: i16) -> i32
+    requires few { length terms.now ≤ 16 }
+    requires forward { AllByRecursion (λ t. t.cell < length values.now) terms.now }
+    ensures { result ≡ value_of (λ c. get_or values.now c 0) constant terms.now }
+{
+    let mut sum = i32::from(constant);
+    for term in terms {
+        sum += scaled(term.weight, values[term.cell as usize]);
+    }
+    sum
+}
+
+fn scaled(weight: i8, value: u8) -> i32
+    ensures value { result ≡ weight *ℤ pos value }
+    ensures low { neg_ℤ (pos 32640) ≤ℤ result }
+    ensures high { result ≤ℤ pos 32640 }
+{
+    i32::from(weight) * i32::from(value)
+}
+
+/// The depth of a legal net: the greatest depth of a job, 0 where it has none.
+pub fn depth(alloc: Global, net: &Net) -> Result<u32, AllocError>
+    requires { Legal net.now }
+    ensures { IfOk result (λ depth. depth ≡ net_depth net.now) }
+{
+    let count = input_cells(net.space, net.inputs.as_slice()) as usize;
+    let mut depths = vec![in alloc; 0; count]?;
+    let mut most = 0;
+    for job in net.jobs.as_slice() {
+        let deeper = deepest(&depths, job.terms.as_slice()) + 1;
+        depths.push(deeper)?;
+        if deeper > most {
+            most = deeper;
+        }
+    }
+    Ok(most)
+}
+
+/// The greatest depth of the cells of terms, 0 where there are none.
+fn deepest(depths: &[u32], terms: &[Term]) -> u32
+    requires { AllByRecursion (λ t. t.cell < length depths.now) terms.now }
+    ensures value { result ≡ greatest_of (map (λ t. get_or depths.now t.cell 0) terms.now) }
+    ensures most { result ≤ greatest_of depths.now }
+{
+    let mut most = 0;
+    for term in terms {
+        let depth = depths[term.cell as usize];
+        if depth > most {
+            most = depth;
+        }
+    }
+    most
+}
