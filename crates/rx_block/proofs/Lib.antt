@@ -1,1 +1,3 @@
 pub mod FreshBlocks
+pub mod Mixed
+pub mod Tagged

@@ -1,3 +1,5 @@
 pub mod Fresh
 pub mod Keeps
+pub mod Combine
+pub mod Lookup
 pub mod Laws

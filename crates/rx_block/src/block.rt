@@ -12,10 +12,30 @@ pub struct Block {
     pub noise: u8,
 }
 
+/// What a block says of itself beside its words.
+#[derive(Clone, Copy, Debug, PartialEq, Eq)]
+pub struct Tags {
+    /// A bound on the number.
+    pub degree: u8,
+    /// The noise is at most this times the base noise of the set.
+    pub noise: u8,
+}
+
 /// A block decodes to a number above its degree.
 #[derive(Clone, Copy, Debug, PartialEq, Eq, thiserror::Error)]
 #[error("decoded {decoded} above the degree {degree}")]
 pub struct Damaged {
     pub decoded: u32,
     pub degree: u8,
+}
+
+/// Why a weighted sum of blocks is refused.
+#[derive(Clone, Copy, Debug, PartialEq, Eq, thiserror::Error)]
+pub enum TagFault {
+    /// The numbers that the sum may give, from `low` to `high`, leave those of a block.
+    #[error("the sum reaches from {low} to {high}")]
+    Range { low: i32, high: i32 },
+    /// The sum of the noise tags, each times the size of its weight, passes the limit of the set.
+    #[error("the noise tags sum to {sum}")]
+    Noise { sum: u32 },
 }
