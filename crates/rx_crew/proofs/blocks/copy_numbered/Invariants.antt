@@ -1,0 +1,11 @@
+use Rattle.std.proofs.Common.{◌≡◌, take}
+use Rattle.rx_block.specs.Combine.{AreBlocksOf}
+use Rattle.rx_crew.specs.Evaluation.{blocks_at, AreWordsOf}
+use Rattle.rx_crew.proofs.blocks.copy_numbered.Given as goal
+
+abbrev pub invariant-loop-place : goal.invariant-loop-place
+invariant-loop-place l = record {
+  copied : take l.place l.to ≡ blocks_at l.from (take l.place l.numbers);
+  sizes : AreBlocksOf l.p l.to;
+  words : AreWordsOf (take l.place l.to);
+}

@@ -1,0 +1,34 @@
+use Rattle.std.proofs.Common.{◌+◌, sym, subst, ◌∙◌, ap}
+use Rattle.rx_params.specs.declared.params.Params.{Params}
+use Rattle.rx_params.specs.Derived.{large_dim}
+use Rattle.rx_block.specs.Combine.{AreBlocksOf}
+use Rattle.rx_crew.specs.Evaluation.{AreWordsOf}
+use Rattle.rx_crew.proofs.Placed.{sum_size, zeros-are, all-written}
+use Rattle.rx_crew.proofs.run.run_net.Goals as goal
+
+pub evaluate-requires-clause-sum_size : goal.evaluate-requires-clause-sum_size
+evaluate-requires-clause-sum_size g c =
+    sum_size c.params-p.result.now _ (c.deref_mut.ensures.len ∙ c.in_ok-sum.ensures.len)
+    ∙ ap (λ (p : Params). large_dim p + 1) c.params-p.ensures.value
+
+pub evaluate-requires-clause-cell_sizes : goal.evaluate-requires-clause-cell_sizes
+evaluate-requires-clause-cell_sizes g c =
+    zeros-are c.args.key.now.params c.params-p.result.now _ c.deref_mut-2.result.now c.in_ok-cells.cells.items c.params-p.ensures.value
+    c.deref_mut-2.ensures.value c.in_ok-cells.ensures
+
+pub evaluate-requires-clause-output_sizes : goal.evaluate-requires-clause-output_sizes
+evaluate-requires-clause-output_sizes g c =
+    zeros-are c.args.key.now.params c.params-p.result.now _ c.deref_mut-3.result.now c.in_ok-outputs.outputs.items c.params-p.ensures.value
+    c.deref_mut-3.ensures.value c.in_ok-outputs.ensures
+
+pub returns-clause-sizes : goal.returns-clause-sizes
+returns-clause-sizes g c =
+    subst (AreBlocksOf c.args.key.now.params)
+    (sym (all-written c.in_ok-outputs.outputs.items c.evaluate.new.outputs _ (c.evaluate.auto.outputs ∙ c.deref_mut-3.ensures.len)))
+    c.evaluate.ensures.sizes
+
+pub returns-clause-words : goal.returns-clause-words
+returns-clause-words g c =
+    subst AreWordsOf
+    (sym (all-written c.in_ok-outputs.outputs.items c.evaluate.new.outputs _ (c.evaluate.auto.outputs ∙ c.deref_mut-3.ensures.len)))
+    c.evaluate.ensures.words
