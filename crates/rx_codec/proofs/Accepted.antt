@@ -33,7 +33,7 @@ poly_true n log h e =
     let k : log ≡ log - 6 + 6 = omega (arith, h.0) in
     ap is_poly_size (e ∙ ap (λ (m : ℕ). 2 ^ m) k) ∙ poly_from (log - 6) (omega (arith, h.0, h.1))
 
-bits_true : (m : ℕ) → (m ≡ 2) ⊎ (m ≡ 3) → (eqb m 2 || eqb m 3) ≡ true
+pub bits_true : (m : ℕ) → (m ≡ 2) ⊎ (m ≡ 3) → (eqb m 2 || eqb m 3) ≡ true
 bits_true m (inl e) = rw e refl
 bits_true m (inr e) = rw e refl
 
@@ -157,7 +157,7 @@ poly_log n e =
       ]
     ]
 
-two_or_three : (m : ℕ) → (eqb m 2 || eqb m 3) ≡ true → (m ≡ 2) ⊎ (m ≡ 3)
+pub two_or_three : (m : ℕ) → (eqb m 2 || eqb m 3) ≡ true → (m ≡ 2) ⊎ (m ≡ 3)
 two_or_three m e = elim (or_true _ _ e) [ inl h ↦ inl (eqb-true _ _ h) | inr h ↦ inr (eqb-true _ _ h) ]
 
 digits-true : (base level : ℕ) → (is_within 1 30 level && leb (base * level) 60) ≡ true → IsWithin 1 30 level × (base * level ≤ 60)

@@ -1,7 +1,7 @@
 -- A loop over a count reads what the recursion reads: one step on, and where a step fails.
-use Rattle.std.proofs.Common.{◌≡◌, ℕ, suc, ◌+◌, ◌-◌, ◌<◌, List, [], ◌∷◌, ◌++◌, Result, Ok, refl, sym, ap, subst, ◌∙◌, arith}
+use Rattle.std.proofs.Common.{◌≡◌, ℕ, suc, ◌+◌, ◌-◌, ◌<◌, List, [], ◌∷◌, ◌++◌, Result, Ok, Err, refl, sym, ap, subst, ◌∙◌, arith}
 use Rattle.rx_codec.specs.declared.fault.CodecFault.{CodecFault}
-use Rattle.rx_codec.specs.declared.fault.CodecFault.TheVariants.{Magic, Short, Long, Field, Params, Memory}
+use Rattle.rx_codec.specs.declared.fault.CodecFault.TheVariants.{Magic, Short, Long, Field, Params, Net, Memory}
 use Rattle.rx_codec.specs.Reading.{◌>>=◌, Fails}
 
 -- what fails in the first step fails
@@ -12,6 +12,17 @@ fails_then (Short need have) read f h = rw h refl
 fails_then (Long extra) read f h = rw h refl
 fails_then (Field at) read f h = rw h refl
 fails_then (Params refused) read f h = rw h refl
+fails_then (Net fault) read f h = rw h refl
+
+-- a fault that is told fails
+pub err_fails : {A : Type 0} (fault : CodecFault) (read : Result A CodecFault) → read ≡ Err fault → Fails fault read
+err_fails Memory read h = tt
+err_fails Magic read h = h
+err_fails (Short need have) read h = h
+err_fails (Long extra) read h = h
+err_fails (Field at) read h = h
+err_fails (Params refused) read h = h
+err_fails (Net fault) read h = h
 
 -- `rest n before at` reads n more after those before; `one before at` reads the next
 abbrev pub Goes : {X : Type 0} → (ℕ → List X → ℕ → Result (List X × ℕ) CodecFault) → (List X → ℕ → Result (X × ℕ) CodecFault) → Type 0

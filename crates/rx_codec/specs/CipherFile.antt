@@ -2,48 +2,42 @@
 -- An item is a name, a form and its blocks, the least first. A name is its length and its bytes; none stands twice. A form is
 -- the kind, 0 for an int and 1 for a bit, and the bits. A block is its degree, its noise tag and its words, 8 bytes each.
 -- Whole numbers are little-endian.
-use Rattle.std.specs.Prelude.{ℕ, zero, suc, ◌+◌, ◌%◌, ◌^◌, ◌≡◌, ◌<◌, ◌≤◌, ◌==◌, nat_le, not, ◌&&◌, List, [], ◌∷◌, ◌++◌, length, codes, Bool, IsTrue, false, if◌then◌else◌, Option, Some, None, Result, Ok, Err, EachIndex, slice_index}
+use Rattle.std.specs.Prelude.{ℕ, ◌+◌, ◌^◌, ◌≡◌, ◌<◌, ◌≤◌, nat_le, ◌&&◌, List, [], ◌∷◌, ◌++◌, length, codes, Bool, IsTrue, false, Result, Ok, EachIndex, slice_index}
 use Rattle.std.specs.List.{flat_map, list_any, AllByRecursion}
 use Rattle.std.specs.Str.{bytes_eq}
 use Rattle.std.specs.Int.{w8, w32, to_le_bytes}
 use Rattle.rx_text.specs.Names.{is_name}
 use Rattle.rx_params.specs.declared.params.Params.{Params}
 use Rattle.rx_params.specs.declared.kind.Kind.{Kind}
-use Rattle.rx_params.specs.declared.kind.Kind.TheVariants.{Int, Bit}
 use Rattle.rx_params.specs.Acceptance.{Accepts}
 use Rattle.rx_params.specs.Derived.{large_dim, noise_limit}
-use Rattle.rx_params.specs.Kinds.{greatest, block_count}
+use Rattle.rx_params.specs.Kinds.{greatest, block_count, is_form}
 use Rattle.rx_block.specs.declared.block.Block.{Block}
 use Rattle.rx_codec.specs.declared.cipher.Item.{Item}
 use Rattle.rx_codec.specs.declared.cipher.Cipher.{Cipher}
 use Rattle.rx_codec.specs.declared.fault.CodecFault.{CodecFault}
-use Rattle.rx_codec.specs.declared.fault.CodecFault.TheVariants.{Field}
 use Rattle.rx_codec.specs.ParamsFields.{params_bytes, params_at}
 use Rattle.rx_codec.specs.WordFields.{word_bytes, words_at}
-use Rattle.rx_codec.specs.Reading.{◌>>=◌, bytes_at, number_at, in_range, magic_at, ends_at}
-
--- whether a number of this kind may have so many bits, in blocks of some message bits
-abbrev pub is_form : ℕ → Kind → ℕ → Bool
-is_form message_bits Int bits = nat_le message_bits bits && (nat_le bits 64 && (bits % message_bits == 0))
-is_form message_bits Bit bits = bits == 1
+use Rattle.rx_codec.specs.NamedFields.{named_bytes, name_at, form_at}
+use Rattle.rx_codec.specs.Reading.{◌>>=◌, number_at, in_range, many_at, magic_at, ends_at}
 
 -- whether one of these items has the name
 abbrev pub has_item : List ℕ → List Item → Bool
 has_item name items = list_any (λ item. bytes_eq item.name name) items
 
 -- ---- the one spelling
-abbrev pub kind_code : Kind → ℕ
-kind_code Int = 0
-kind_code Bit = 1
-
 abbrev pub block_bytes : Block → List ℕ
 block_bytes b = b.degree ∷ b.noise ∷ word_bytes b.words
 
 abbrev pub item_bytes : Item → List ℕ
-item_bytes i = length i.name ∷ i.name ++ kind_code i.kind ∷ i.bits ∷ flat_map block_bytes i.blocks
+item_bytes i = named_bytes i.name i.kind i.bits ++ flat_map block_bytes i.blocks
+
+-- the head of a file of so many items
+abbrev pub cipher_head : Params → ℕ → List ℕ
+cipher_head p count = codes "RXE1" ++ params_bytes p ++ to_le_bytes w32 count
 
 abbrev pub cipher_bytes : Cipher → List ℕ
-cipher_bytes c = codes "RXE1" ++ params_bytes c.params ++ to_le_bytes w32 (length c.items) ++ flat_map item_bytes c.items
+cipher_bytes c = cipher_head c.params (length c.items) ++ flat_map item_bytes c.items
 
 -- ---- what has a spelling
 pub record IsBlock (p : Params) (kind : Kind) (b : Block) : Type 0 where
@@ -87,45 +81,18 @@ block_at p kind file at = do
 
 -- so many blocks, after those before
 abbrev pub blocks_at : Params → Kind → ℕ → List Block → List ℕ → ℕ → Result (List Block × ℕ) CodecFault
-blocks_at p kind zero before file at = Ok (before, at)
-blocks_at p kind (suc count) before file at =
-    block_at p kind file at >>= λ block. blocks_at p kind count (before ++ block.0 ∷ []) file block.1
-
--- a name that no item before has
-unfoldable pub name_at : List Item → List ℕ → ℕ → Result (List ℕ × ℕ) CodecFault
-name_at before file at = do
-  size ← number_at w8 file at
-  size ← in_range (nat_le 1 size.0 && nat_le size.0 32) at size
-  name ← bytes_at file size.0 size.1
-  in_range (is_name name.0 && not (has_item name.0 before)) size.1 name
-
-abbrev pub kind_of_code : ℕ → Option Kind
-kind_of_code code = if code == 0 then Some Int else if code == 1 then Some Bit else None
-
-abbrev pub known_kind : Option Kind → ℕ → ℕ → Result (Kind × ℕ) CodecFault
-known_kind None at after = Err (Field at)
-known_kind (Some kind) at after = Ok (kind, after)
-
-unfoldable pub form_at : ℕ → List ℕ → ℕ → Result ((Kind × ℕ) × ℕ) CodecFault
-form_at message_bits file at = do
-  code ← number_at w8 file at
-  kind ← known_kind (kind_of_code code.0) at code.1
-  bits ← number_at w8 file kind.1
-  bits ← in_range (is_form message_bits kind.0 bits.0) kind.1 bits
-  Ok ((kind.0, bits.0), bits.1)
+blocks_at p kind count before file at = many_at (λ before. block_at p kind) count before file at
 
 unfoldable pub item_at : Params → List Item → List ℕ → ℕ → Result (Item × ℕ) CodecFault
 item_at p before file at = do
-  name ← name_at before file at
+  name ← name_at (λ name. has_item name before) file at
   form ← form_at p.message_bits file name.1
   blocks ← blocks_at p form.0.0 (block_count form.0.0 p.message_bits form.0.1) [] file form.1
   Ok (record { name = name.0; kind = form.0.0; bits = form.0.1; blocks = blocks.0 }, blocks.1)
 
 -- so many items, after those before
 abbrev pub items_at : Params → ℕ → List Item → List ℕ → ℕ → Result (List Item × ℕ) CodecFault
-items_at p zero before file at = Ok (before, at)
-items_at p (suc count) before file at =
-    item_at p before file at >>= λ item. items_at p count (before ++ item.0 ∷ []) file item.1
+items_at p count before file at = many_at (item_at p) count before file at
 
 -- the cipher that a file spells, or its first fault
 unfoldable pub cipher_from : List ℕ → Result Cipher CodecFault

@@ -2,5 +2,8 @@ pub mod Reading
 pub mod ParamsFields
 pub mod WordFields
 pub mod ClientFile
+pub mod ServerFile
+pub mod NamedFields
 pub mod CipherFile
+pub mod NetFile
 pub mod Laws

@@ -3,15 +3,17 @@ ghost use Rattle.std.specs.Prelude.{◌≡◌, ◌≤◌, ◌++◌, length, IfOk
 ghost use Rattle.rx_params.specs.Acceptance.{Accepts};
 ghost use Rattle.rx_codec.specs.declared.cipher.Cipher.{Cipher};
 ghost use Rattle.rx_codec.specs.Reading.{AnswersAt, GivesAt, Gives};
-ghost use Rattle.rx_codec.specs.CipherFile.{CipherFile, IsCipher, cipher_bytes, item_bytes, block_bytes, cipher_from, items_at, item_at, blocks_at, block_at, name_at, form_at, has_item as item_has_name};
+ghost use Rattle.rx_codec.specs.CipherFile.{CipherFile, IsCipher, cipher_bytes, item_bytes, cipher_from, items_at, item_at, blocks_at, block_at, has_item as item_has_name};
+ghost use Rattle.rx_codec.specs.NamedFields.{name_at};
 
 use crate::CodecFault;
+use crate::cipher_parts::{HEAD_SIZE, item_size, write_block, write_cipher_head};
 use crate::lists::{Blocks, Items};
-use crate::params_fields::{read_params, write_params};
+use crate::named_fields::{new_name, read_form, read_name_size, write_name_and_form};
+use crate::params_fields::read_params;
 use crate::reader::{Reader, in_range};
-use crate::shapes::{block_count, block_words, greatest_degree, greatest_noise, is_form};
-use crate::writer::write_words;
-use rx_block::Block;
+use crate::shapes::{block_words, greatest_noise};
+use rx_block::{Block, Tags};
 use rx_params::{Kind, Name, Params};
 use rx_torus::Words;
 use std::alloc::{AllocError, Global};
@@ -93,8 +95,8 @@ fn read_item(
     ensures file { reader.new.file ≡ reader.old.file }
 {
     let name = read_name(reader, before)?;
-    let (kind, bits) = read_form(reader, params)?;
-    let count = block_count(params, kind, bits);
+    let (kind, bits) = read_form(reader, params.message_bits)?;
+    let count = kind.block_count(params.message_bits, bits);
     let blocks = read_blocks(alloc, reader, params, kind, count)?;
     Ok(Item {
         name,
@@ -104,20 +106,15 @@ fn read_item(
     })
 }
 
-#[tactic(auto, unfolding(crate::specs::CipherFile::name_at))]
+#[tactic(auto, unfolding(crate::specs::NamedFields::name_at))]
 fn read_name(reader: &mut Reader, before: &[Item]) -> Result<Name, CodecFault>
-    ensures value { AnswersAt (λ name. name) reader.new.at result (name_at before.now reader.old.file reader.old.at) }
+    ensures value { AnswersAt (λ name. name) reader.new.at result (name_at (λ name. item_has_name name before.now) reader.old.file reader.old.at) }
     ensures file { reader.new.file ≡ reader.old.file }
 {
+    let size = read_name_size(reader)?;
     let at = reader.at();
-    let size = reader.u8()?;
-    in_range((1..=32).contains(&size), at)?;
-    let at = reader.at();
-    let text = reader.bytes(usize::from(size))?;
-    match Name::of(text) {
-        Some(name) if !has_item(text, before) => Ok(name),
-        _ => Err(CodecFault::Field { at }),
-    }
+    let text = reader.bytes(size)?;
+    new_name(text, has_item(text, before), at)
 }
 
 /// Whether one of these items has the name.
@@ -125,24 +122,6 @@ fn has_item(name: &[u8], items: &[Item]) -> bool
     ensures { result ≡ item_has_name name.now items.now }
 {
     items.iter().any(|item| item.name.as_bytes() == name)
-}
-
-#[tactic(auto, unfolding(crate::specs::CipherFile::form_at))]
-fn read_form(reader: &mut Reader, params: &Params) -> Result<(Kind, u32), CodecFault>
-    requires { Accepts params.now }
-    ensures value { AnswersAt (λ form. (form.0, form.1)) reader.new.at result (form_at params.now.message_bits reader.old.file reader.old.at) }
-    ensures file { reader.new.file ≡ reader.old.file }
-{
-    let at = reader.at();
-    let kind = match reader.u8()? {
-        0 => Kind::Int,
-        1 => Kind::Bit,
-        _ => return Err(CodecFault::Field { at }),
-    };
-    let at = reader.at();
-    let bits = u32::from(reader.u8()?);
-    in_range(is_form(params, kind, bits), at)?;
-    Ok((kind, bits))
 }
 
 fn read_blocks(
@@ -177,7 +156,7 @@ fn read_block(
 {
     let at = reader.at();
     let degree = reader.u8()?;
-    in_range(degree <= greatest_degree(params, kind), at)?;
+    in_range(degree <= kind.greatest(params.message_bits), at)?;
     let at = reader.at();
     let noise = reader.u8()?;
     in_range((1..=greatest_noise(params)).contains(&noise), at)?;
@@ -195,10 +174,8 @@ pub fn encode_cipher(alloc: Global, value: &Cipher) -> Result<Vec<u8>, AllocErro
     ensures { IfOk result (λ bytes. bytes.items ≡ cipher_bytes value.now) }
 {
     let mut out = Vec::with_capacity(alloc, file_size(value))?;
-    out.extend_from_slice(b"RXE1")?;
-    write_params(&mut out, &value.params)?;
     let items = value.items.as_slice();
-    out.extend_from_slice(&(items.len() as u32).to_le_bytes())?;
+    write_cipher_head(&mut out, &value.params, items.len() as u32)?;
     for item in items {
         write_item(&mut out, item)?;
     }
@@ -206,19 +183,14 @@ pub fn encode_cipher(alloc: Global, value: &Cipher) -> Result<Vec<u8>, AllocErro
 }
 
 /// The bytes of the file, as far as a size can be counted.
-fn file_size(value: &Cipher) -> usize {
-    let mut size: usize = 48;
+fn file_size(value: &Cipher) -> usize
+    requires { IsCipher value.now }
+{
+    let words = block_words(&value.params);
+    let mut size = HEAD_SIZE;
     for item in value.items.as_slice() {
-        size = size.saturating_add(item_size(item));
-    }
-    size
-}
-
-fn item_size(item: &Item) -> usize {
-    let mut size = item.name.as_bytes().len().saturating_add(3);
-    for block in item.blocks.as_slice() {
-        let words = block.words.as_slice().len().saturating_mul(8);
-        size = size.saturating_add(words).saturating_add(2);
+        let blocks = item.blocks.as_slice().len();
+        size = size.saturating_add(item_size(&item.name, blocks, words));
     }
     size
 }
@@ -228,24 +200,13 @@ fn write_item(out: &mut Vec<u8>, item: &Item) -> Result<(), AllocError>
     requires bits { item.now.bits ≤ 64 }
     ensures { OnOk result (out.new.items ≡ out.old.items ++ item_bytes item.now) }
 {
-    let name = item.name.as_bytes();
-    out.push(name.len() as u8)?;
-    out.extend_from_slice(name)?;
-    out.push(match item.kind {
-        Kind::Int => 0,
-        Kind::Bit => 1,
-    })?;
-    out.push(item.bits as u8)?;
+    write_name_and_form(out, &item.name, item.kind, item.bits)?;
     for block in item.blocks.as_slice() {
-        write_block(out, block)?;
+        let tags = Tags {
+            degree: block.degree,
+            noise: block.noise,
+        };
+        write_block(out, block.words.as_slice(), tags)?;
     }
     Ok(())
-}
-
-fn write_block(out: &mut Vec<u8>, block: &Block) -> Result<(), AllocError>
-    ensures { OnOk result (out.new.items ≡ out.old.items ++ block_bytes block.now) }
-{
-    out.push(block.degree)?;
-    out.push(block.noise)?;
-    write_words(out, block.words.as_slice())
 }

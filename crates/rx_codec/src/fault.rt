@@ -2,6 +2,7 @@
 ghost use Rattle.std.specs.Prelude.{◌≡◌};
 ghost use Rattle.rx_codec.specs.declared.fault.CodecFault.TheVariants.{Memory};
 
+use rx_net::NetFault;
 use rx_params::Refused;
 use std::alloc::{AllocError, AllocFailed};
 use thiserror::Error;
@@ -24,6 +25,9 @@ pub enum CodecFault {
     /// The parameters are not accepted.
     #[error("parameters: {0}")]
     Params(Refused),
+    /// The net that the file spells is not legal.
+    #[error("net: {0}")]
+    Net(NetFault),
     #[error("out of memory")]
     Memory,
 }

@@ -1,21 +1,35 @@
-//! The binary formats: client files and ciphertext files, in both directions.
+//! The binary formats: client, server and ciphertext files, in both directions.
 #![tactic(auto)]
 
 mod cipher;
+mod cipher_parts;
 mod client;
 mod fault;
 mod laws;
 mod lists;
+mod named_fields;
+mod net_file;
+mod net_reading;
+mod net_writing;
 mod params_fields;
 mod reader;
+mod server;
 mod shapes;
 mod writer;
 
 pub use cipher::{Cipher, Item, decode_cipher, encode_cipher};
+pub use cipher_parts::{HEAD_SIZE, item_size, write_block, write_cipher_head};
 pub use client::{Client, decode_client, encode_client};
 pub use fault::CodecFault;
 pub use laws::file_laws;
 pub use lists::{Blocks, Items};
+pub use named_fields::write_name_and_form;
+pub use net_file::{decode_net, encode_net};
+pub use server::{decode_server, encode_server};
 
 #[cfg(test)]
 mod tests;
+#[cfg(test)]
+mod tests_net;
+#[cfg(test)]
+mod tests_server;

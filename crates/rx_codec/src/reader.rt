@@ -1,7 +1,7 @@
 // Reading a file field after field. Each format is read by one `Reader`, which keeps the place and answers the faults.
 ghost use Rattle.std.specs.Prelude.{◌≡◌, ◌*◌, ◌<◌, ◌^◌, length, IfOk};
-ghost use Rattle.std.specs.Int.{w8, w32};
-ghost use Rattle.rx_codec.specs.Reading.{Answers, AnswersAt, GivesAt, bytes_at, number_at, in_range as field_in_range, magic_at, ends_at};
+ghost use Rattle.std.specs.Int.{w8, w16, w32};
+ghost use Rattle.rx_codec.specs.Reading.{Answers, AnswersAt, GivesAt, bytes_at, number_at, signed_at, count_at, in_range as field_in_range, magic_at, ends_at};
 ghost use Rattle.rx_codec.specs.WordFields.{words_at, words_in};
 
 use crate::CodecFault;
@@ -73,6 +73,31 @@ impl<'a> Reader<'a> {
         Ok(bytes[0])
     }
 
+    /// A number of two bytes.
+    pub fn u16(&mut self) -> Result<u16, CodecFault>
+        ensures value { AnswersAt (λ n. n) self.new.at result (number_at w16 self.old.file self.old.at) }
+        ensures file { self.new.file ≡ self.old.file }
+    {
+        let bytes = self.bytes(2)?;
+        Ok(u16::from_le_bytes([bytes[0], bytes[1]]))
+    }
+
+    /// A number of one byte and of either sign.
+    pub fn i8(&mut self) -> Result<i8, CodecFault>
+        ensures value { AnswersAt (λ n. n) self.new.at result (signed_at w8 self.old.file self.old.at) }
+        ensures file { self.new.file ≡ self.old.file }
+    {
+        Ok(self.u8()?.cast_signed())
+    }
+
+    /// A number of two bytes and of either sign.
+    pub fn i16(&mut self) -> Result<i16, CodecFault>
+        ensures value { AnswersAt (λ n. n) self.new.at result (signed_at w16 self.old.file self.old.at) }
+        ensures file { self.new.file ≡ self.old.file }
+    {
+        Ok(self.u16()?.cast_signed())
+    }
+
     /// A number of four bytes.
     pub fn u32(&mut self) -> Result<u32, CodecFault>
         ensures value { AnswersAt (λ n. n) self.new.at result (number_at w32 self.old.file self.old.at) }
@@ -80,6 +105,42 @@ impl<'a> Reader<'a> {
     {
         let bytes = self.bytes(4)?;
         Ok(u32::from_le_bytes([bytes[0], bytes[1], bytes[2], bytes[3]]))
+    }
+
+    /// A number of one byte that is at most `most`.
+    #[tactic(auto, unfolding(crate::specs::Reading::count_at))]
+    pub fn u8_at_most(&mut self, most: u8) -> Result<u8, CodecFault>
+        ensures value { AnswersAt (λ n. n) self.new.at result (count_at w8 most self.old.file self.old.at) }
+        ensures file { self.new.file ≡ self.old.file }
+    {
+        let at = self.at();
+        let count = self.u8()?;
+        in_range(count <= most, at)?;
+        Ok(count)
+    }
+
+    /// A number of two bytes that is at most `most`.
+    #[tactic(auto, unfolding(crate::specs::Reading::count_at))]
+    pub fn u16_at_most(&mut self, most: u16) -> Result<u16, CodecFault>
+        ensures value { AnswersAt (λ n. n) self.new.at result (count_at w16 most self.old.file self.old.at) }
+        ensures file { self.new.file ≡ self.old.file }
+    {
+        let at = self.at();
+        let count = self.u16()?;
+        in_range(count <= most, at)?;
+        Ok(count)
+    }
+
+    /// A number of four bytes that is at most `most`.
+    #[tactic(auto, unfolding(crate::specs::Reading::count_at))]
+    pub fn u32_at_most(&mut self, most: u32) -> Result<u32, CodecFault>
+        ensures value { AnswersAt (λ n. n) self.new.at result (count_at w32 most self.old.file self.old.at) }
+        ensures file { self.new.file ≡ self.old.file }
+    {
+        let at = self.at();
+        let count = self.u32()?;
+        in_range(count <= most, at)?;
+        Ok(count)
     }
 
     /// A field of so many words of eight bytes.
@@ -118,7 +179,7 @@ pub fn in_range(passes: bool, at: u64) -> Result<(), CodecFault>
 }
 
 /// The words that the bytes are.
-fn words_of(alloc: Global, count: usize, bytes: &[u8]) -> Result<Vec<u64>, AllocError>
+pub fn words_of(alloc: Global, count: usize, bytes: &[u8]) -> Result<Vec<u64>, AllocError>
     requires { length bytes.now ≡ 8 * count }
     ensures { IfOk result (λ words. words.items ≡ words_in count bytes.now) }
 {

@@ -4,7 +4,7 @@ use rx_params::{Kind, Params, Refused};
 use std::alloc::{AllocError, Global};
 use std::test::Fail;
 
-const SMALL: Params = Params {
+pub(crate) const SMALL: Params = Params {
     message_bits: 2,
     glwe_dim: 1,
     poly_size: 256,
@@ -17,7 +17,7 @@ const SMALL: Params = Params {
     lwe_bound: 20,
 };
 
-static FIELDS: [u8; 40] = [
+pub(crate) static FIELDS: [u8; 40] = [
     2, 0, 0, 0, 1, 0, 0, 0, 0, 1, 0, 0, 8, 0, 0, 0, 12, 0, 0, 0, 2, 0, 0, 0, 4, 0, 0, 0, 6, 0, 0,
     0, 17, 0, 0, 0, 20, 0, 0, 0,
 ];
@@ -66,7 +66,12 @@ fn twice_file(alloc: Global) -> Result<Vec<u8>, AllocError> {
     Ok(file)
 }
 
-fn changed(alloc: Global, file: &[u8], at: usize, value: u8) -> Result<Vec<u8>, AllocError> {
+pub(crate) fn changed(
+    alloc: Global,
+    file: &[u8],
+    at: usize,
+    value: u8,
+) -> Result<Vec<u8>, AllocError> {
     let mut file = Vec::from_slice(alloc, file)?;
     if let Some(byte) = file.get_mut(at) {
         *byte = value;
@@ -75,7 +80,7 @@ fn changed(alloc: Global, file: &[u8], at: usize, value: u8) -> Result<Vec<u8>, 
 }
 
 /// So many bytes of a file, or of the file with one byte more.
-fn cut(alloc: Global, file: &[u8], len: usize) -> Result<Vec<u8>, AllocError> {
+pub(crate) fn cut(alloc: Global, file: &[u8], len: usize) -> Result<Vec<u8>, AllocError> {
     let mut file = Vec::from_slice(alloc, file)?;
     file.push(0)?;
     file.truncate(len);

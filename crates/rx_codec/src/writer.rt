@@ -3,6 +3,7 @@ ghost use Rattle.std.specs.Prelude.{◌≡◌, ◌++◌, OnOk};
 ghost use Rattle.std.specs.Int.{w32, w64, to_le_bytes};
 ghost use Rattle.std.specs.List.{flat_map};
 
+use byteorder::{ByteOrder, LittleEndian};
 use std::alloc::AllocError;
 
 /// Adds numbers, four bytes each.
@@ -19,8 +20,8 @@ pub fn write_numbers(out: &mut Vec<u8>, numbers: &[u32]) -> Result<(), AllocErro
 pub fn write_words(out: &mut Vec<u8>, words: &[u64]) -> Result<(), AllocError>
     ensures { OnOk result (out.new.items ≡ out.old.items ++ flat_map (to_le_bytes w64) words.now) }
 {
-    for word in words {
-        out.extend_from_slice(&word.to_le_bytes())?;
-    }
+    let start = out.len();
+    out.resize(start + 8 * words.len(), 0)?;
+    LittleEndian::write_u64_into(words, &mut out[start..]);
     Ok(())
 }
