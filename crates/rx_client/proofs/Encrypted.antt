@@ -1,9 +1,8 @@
 -- The encryption of some lines: it has a spelling as a file, and each of its blocks keeps its digit.
-use Rattle.std.proofs.Common.{◌≡◌, ◌⊎◌, inl, inr, ℕ, zero, suc, ℤ, pos, get_or, drop, ◌+◌, ◌-◌, ◌*◌, ◌/◌, ◌%◌, ◌^◌, ◌<◌, ◌≤◌, refl, sym, ◌∙◌, ap, arith, subst, Bool, true, false, ◌||◌, IsTrue, List, [], ◌∷◌, ◌++◌, map, length, Option, None, Some, if◌then◌else◌}
-use Rattle.std.specs.List.{AllByRecursion, range_with_len}
+use Rattle.std.proofs.Common.{◌≡◌, ◌⊎◌, inl, inr, ℕ, zero, suc, ℤ, pos, get_or, ◌+◌, ◌-◌, ◌*◌, ◌/◌, ◌%◌, ◌^◌, ◌<◌, ◌≤◌, refl, sym, ◌∙◌, ap, append_assoc, arith, subst, Bool, true, false, ◌||◌, IsTrue, List, [], ◌∷◌, ◌++◌, map, length, Option, None, Some, if◌then◌else◌}
+use Rattle.std.specs.List.{flat_map, AllByRecursion, range_with_len}
 use Rattle.std.specs.Str.{bytes_eq}
 use Rattle.std.proofs.lemmas.Bool.Decides.{nat_tests}
-use Rattle.std.proofs.lemmas.List.{append-nil, drop_all}
 use Rattle.std.proofs.lemmas.List.FromFn.{length-map-range_with_len}
 use Rattle.rx_laws.specs.Torus.{word}
 use Rattle.rx_laws.specs.Words.{of_words, AreWords}
@@ -19,7 +18,7 @@ use Rattle.rx_params.specs.declared.kind.Kind.{Kind}
 use Rattle.rx_params.specs.declared.kind.Kind.TheVariants.{Int, Bit}
 use Rattle.rx_params.specs.Acceptance.{Accepts, FieldsInRange}
 use Rattle.rx_params.specs.Derived.{large_dim}
-use Rattle.rx_params.specs.Kinds.{greatest, block_count, digit_at}
+use Rattle.rx_params.specs.Kinds.{greatest, block_count, is_form, digit_at}
 use Rattle.rx_lwe.specs.Lwe.{encrypted}
 use Rattle.rx_block.specs.declared.block.Block.{Block}
 use Rattle.rx_block.specs.Fresh.{fresh}
@@ -27,10 +26,9 @@ use Rattle.rx_block.proofs.FreshBlocks.{fresh-keeps}
 use Rattle.rx_circuit.specs.declared.values.ValueLine.{ValueLine}
 use Rattle.rx_circuit.specs.Values.{is_width, has_name, IsValueLine, NamesOnce, AreValues}
 use Rattle.rx_codec.specs.declared.cipher.Item.{Item}
-use Rattle.rx_codec.specs.declared.cipher.Cipher.{Cipher}
-use Rattle.rx_codec.specs.CipherFile.{is_form, has_item, IsBlock, IsItem, ItemsOnce, IsCipher}
+use Rattle.rx_codec.specs.CipherFile.{has_item, item_bytes, cipher_head, IsBlock, IsItem, ItemsOnce, IsCipher}
 use Rattle.rx_client.specs.Encrypt.{blocks_in, line_blocks, line_item, items_from, encrypted_values, is_filled, has_width, first_width, KeepsDigits, KeepsValues}
-use Rattle.rx_client.proofs.Items.{HasItems}
+use Rattle.rx_client.proofs.Items.{HasWritten}
 
 -- ---- one block
 
@@ -182,16 +180,18 @@ pub values_keep : (p : Params) (key mask_seed noise_seed : List ℕ) (lines : Li
 unfolding encrypted_values
 values_keep p key mask_seed noise_seed lines fields are = items_keep p key mask_seed noise_seed 0 lines fields are.each
 
--- the items that a loop over all lines has made are the encryption
-pub values_are : (p : Params) (key mask_seed noise_seed : List ℕ) (lines : List ValueLine) (n number : ℕ) (made items : List Item) →
-    length lines ≤ n → items ≡ made → HasItems p key mask_seed noise_seed lines n number made →
-    ◌≡◌ {A = Cipher} (record { params = p; items = items }) (encrypted_values p key mask_seed noise_seed lines)
+-- the head of the file stands, and no line is done
+pub written_none : (p : Params) (key mask_seed noise_seed : List ℕ) (lines : List ValueLine) (before file : List ℕ) →
+    file ≡ before ++ cipher_head p (length lines) → HasWritten p key mask_seed noise_seed lines 0 0 before file
 unfolding encrypted_values
-values_are p key mask_seed noise_seed lines n number made items end same has =
-    let none : made ++ items_from p key mask_seed noise_seed number (drop n lines) ≡ made ++ [] =
-    ap (λ rest. made ++ items_from p key mask_seed noise_seed number rest) (drop_all n lines end) in
-    let all : made ≡ items_from p key mask_seed noise_seed 0 lines = sym (append-nil made) ∙ sym none ∙ has.items in
-    cc
+written_none p key mask_seed noise_seed lines before file head =
+    let items : List Item = items_from p key mask_seed noise_seed 0 lines in
+    record {
+      rest = ap (λ text. text ++ flat_map item_bytes items) head
+          ∙ append_assoc before (cipher_head p (length lines)) (flat_map item_bytes items)
+          ∙ ap (λ count. before ++ (cipher_head p count ++ flat_map item_bytes items)) (sym (items_count p key mask_seed noise_seed 0 lines));
+      numbers = omega arith;
+    }
 
 pub values_params : (p : Params) (key mask_seed noise_seed : List ℕ) (lines : List ValueLine) →
     (encrypted_values p key mask_seed noise_seed lines).params ≡ p

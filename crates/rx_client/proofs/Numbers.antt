@@ -9,12 +9,12 @@ use Rattle.rx_params.specs.declared.params.Params.{Params}
 use Rattle.rx_params.specs.declared.kind.Kind.{Kind}
 use Rattle.rx_params.specs.declared.kind.Kind.TheVariants.{Int, Bit}
 use Rattle.rx_params.specs.Acceptance.{FieldsInRange}
-use Rattle.rx_params.specs.Kinds.{greatest, block_count}
+use Rattle.rx_params.specs.Kinds.{greatest, block_count, is_form}
 use Rattle.rx_block.specs.declared.block.Block.{Block}
 use Rattle.rx_block.specs.declared.block.Damaged.{Damaged}
 use Rattle.rx_block.specs.Keeps.{within_degree, decrypted}
 use Rattle.rx_codec.specs.declared.cipher.Item.{Item}
-use Rattle.rx_codec.specs.CipherFile.{is_form, IsBlock, IsItem}
+use Rattle.rx_codec.specs.CipherFile.{IsBlock, IsItem}
 use Rattle.rx_client.specs.Decrypt.{block_number, number_of, item_number, damage_here, damage_in}
 
 -- the first n blocks are within their degrees and make up the number

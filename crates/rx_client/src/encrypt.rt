@@ -1,16 +1,16 @@
 // Numbers of a value file under encryption.
-ghost use Rattle.std.specs.Prelude.{◌≡◌, ◌⊎◌, ◌+◌, ◌*◌, ◌^◌, ◌<◌, IfOk, None, length};
+ghost use Rattle.std.specs.Prelude.{◌≡◌, ◌⊎◌, ◌+◌, ◌*◌, ◌^◌, ◌<◌, ◌++◌, IfOk, OnOk, None, length};
 ghost use Rattle.std.specs.Option.{option_copied};
 ghost use Rattle.rx_params.specs.Acceptance.{Accepts, FieldsInRange};
 ghost use Rattle.rx_params.specs.Derived.{large_dim};
 ghost use Rattle.rx_params.specs.Kinds.{block_count, digit_at as digit_of};
 ghost use Rattle.rx_circuit.specs.Values.{AreValues, IsValueLine};
-ghost use Rattle.rx_codec.specs.CipherFile.{IsCipher};
-ghost use Rattle.rx_client.specs.Encrypt.{line_item as item_of, encrypted_values, has_width as has_width_of, first_width, KeepsValues};
+ghost use Rattle.rx_codec.specs.CipherFile.{CipherFile, cipher_bytes, item_bytes};
+ghost use Rattle.rx_client.specs.Encrypt.{line_item, encrypted_values, has_width as has_width_of, first_width, KeepsValues};
 
-use rx_block::fresh_block;
+use rx_block::fresh_words_into;
 use rx_circuit::ValueLine;
-use rx_codec::{Blocks, Cipher, Item, Items};
+use rx_codec::{HEAD_SIZE, item_size, write_block, write_cipher_head, write_name_and_form};
 use rx_lwe::SecretKey;
 use rx_params::{Kind, Params};
 use std::alloc::{AllocError, Global};
@@ -39,8 +39,9 @@ fn has_width(message_bits: u32, line: &ValueLine) -> bool
     }
 }
 
-/// The items of the lines, in order, under a key: each line becomes its fresh blocks, which are numbered
-/// through the whole file from 0. The two seeds serve one file.
+/// The ciphertext file of the lines under a key: each line becomes an item of its fresh blocks, which are
+/// numbered through the whole file from 0. The two seeds serve one file. Each block stands in the file
+/// before the next is made.
 pub fn encrypt_values(
     alloc: Global,
     p: &Params,
@@ -48,50 +49,81 @@ pub fn encrypt_values(
     mask_seed: &[u8; 32],
     noise_seed: &[u8; 32],
     lines: &[ValueLine],
-) -> Result<Cipher, AllocError>
+) -> Result<Vec<u8>, AllocError>
     requires accepted { Accepts p.now }
     requires key { length key.now ≡ large_dim p.now }
     requires values { AreValues lines.now }
     requires widths { first_width p.now.message_bits lines.now ≡ None }
-    ensures value { IfOk result
-        (λ c. c ≡ encrypted_values p.now key.now mask_seed.now noise_seed.now lines.now) }
-    ensures fits { IfOk result (λ c. IsCipher c) }
-    ensures keeps { IfOk result (λ c. KeepsValues p.now key.now c.items lines.now) }
+    ensures file { IfOk result (λ bytes. CipherFile bytes.items
+        (encrypted_values p.now key.now mask_seed.now noise_seed.now lines.now)) }
+    ensures keeps { IfOk result (λ _. KeepsValues p.now key.now
+        (encrypted_values p.now key.now mask_seed.now noise_seed.now lines.now).items lines.now) }
 {
-    let mut items = Vec::new(alloc);
-    let mut number = 0;
-    for line in lines {
-        let item = line_item(alloc, p, key, mask_seed, noise_seed, number, line)?;
-        items.push(item)?;
-        number += blocks_in(p.message_bits, line);
-    }
-    Ok(Cipher {
-        params: *p,
-        items: Items::from_vec(items),
-    })
+    let mut words = vec![in alloc; 0; key.bits().len() + 1]?;
+    let mut file = Vec::with_capacity(alloc, file_size(p, words.len(), lines))?;
+    write_file(&mut file, &mut words, p, key, mask_seed, noise_seed, lines)?;
+    Ok(file)
 }
 
-// The item of a line, whose first block has this number.
-fn line_item(
-    alloc: Global,
+// The bytes of the file of some lines, in blocks of so many words, as far as a size can be counted.
+fn file_size(p: &Params, words: usize, lines: &[ValueLine]) -> usize
+    requires { FieldsInRange p.now }
+{
+    let mut size = HEAD_SIZE;
+    for line in lines {
+        let blocks = blocks_in(p.message_bits, line) as usize;
+        size = size.saturating_add(item_size(&line.name, blocks, words));
+    }
+    size
+}
+
+// Adds the whole file of some lines. Each block is made in the lent words.
+fn write_file(
+    file: &mut Vec<u8>,
+    words: &mut [u64],
+    p: &Params,
+    key: &SecretKey,
+    mask_seed: &[u8; 32],
+    noise_seed: &[u8; 32],
+    lines: &[ValueLine],
+) -> Result<(), AllocError>
+    requires fields { FieldsInRange p.now }
+    requires values { AreValues lines.now }
+    requires room { length words.old ≡ length key.now + 1 }
+    ensures { OnOk result (file.new.items ≡ file.old.items
+        ++ cipher_bytes (encrypted_values p.now key.now mask_seed.now noise_seed.now lines.now)) }
+{
+    write_cipher_head(file, p, lines.len() as u32)?;
+    let mut number = 0;
+    for line in lines {
+        write_item(file, words, p, key, mask_seed, noise_seed, number, line)?;
+        number += blocks_in(p.message_bits, line);
+    }
+    Ok(())
+}
+
+// Adds the item of a line, whose first block has this number.
+fn write_item(
+    file: &mut Vec<u8>,
+    words: &mut [u64],
     p: &Params,
     key: &SecretKey,
     mask_seed: &[u8; 32],
     noise_seed: &[u8; 32],
     number: u32,
     line: &ValueLine,
-) -> Result<Item, AllocError>
+) -> Result<(), AllocError>
     requires fields { FieldsInRange p.now }
     requires line { IsValueLine line.now }
-    requires room { number + 64 < 2 ^ 32 }
-    ensures { IfOk result
-        (λ item. item ≡ item_of p.now key.now mask_seed.now noise_seed.now number line.now) }
+    requires numbers { number + 64 < 2 ^ 32 }
+    requires room { length words.old ≡ length key.now + 1 }
+    ensures { OnOk result (file.new.items ≡ file.old.items
+        ++ item_bytes (line_item p.now key.now mask_seed.now noise_seed.now number line.now)) }
 {
-    let mut blocks = Vec::new(alloc);
+    write_name_and_form(file, &line.name, line.kind, line.bits)?;
     for i in 0..blocks_in(p.message_bits, line) {
         let digit = digit_at(p.message_bits, line.value, i);
-        let block = fresh_block(
-            alloc,
+        let tags = fresh_words_into(
             p,
             key,
             mask_seed,
@@ -99,15 +131,11 @@ fn line_item(
             number + i,
             line.kind,
             digit,
-        )?;
-        blocks.push(block)?;
+            words,
+        );
+        write_block(file, words, tags)?;
     }
-    Ok(Item {
-        name: line.name,
-        kind: line.kind,
-        bits: line.bits,
-        blocks: Blocks::from_vec(blocks),
-    })
+    Ok(())
 }
 
 // How many blocks a line has.

@@ -11,10 +11,10 @@ ghost use Rattle.rx_client.specs.Encrypt.{first_width};
 use crate::{DecryptError, decrypt_items, encrypt_values, wrong_width_in};
 use rx_block::decrypt_block;
 use rx_circuit::ValueLine;
-use rx_codec::{Blocks, Item};
+use rx_codec::{Blocks, Item, decode_cipher, encode_cipher};
 use rx_lwe::SecretKey;
 use rx_params::{Kind, Name, Params, named};
-use std::alloc::{AllocError, Global};
+use std::alloc::Global;
 use std::process::Abort;
 use std::test::Fail;
 
@@ -44,14 +44,15 @@ fn items_of(
     p: &Params,
     key: &SecretKey,
     lines: &[ValueLine],
-) -> Result<Vec<Item>, AllocError>
+) -> Result<Vec<Item>, Fail>
     requires accepted { Accepts p.now }
     requires key { length key.now ≡ large_dim p.now }
     requires values { AreValues lines.now }
     requires widths { first_width p.now.message_bits lines.now ≡ None }
     ensures { IfOk result (λ items. AllByRecursion (IsItem p.now) items.items) }
 {
-    let cipher = encrypt_values(alloc, p, key, &MASK_SEED, &NOISE_SEED, lines)?;
+    let file = encrypt_values(alloc, p, key, &MASK_SEED, &NOISE_SEED, lines)?;
+    let cipher = decode_cipher(alloc, file.as_slice())?;
     Ok(cipher.items.into_vec())
 }
 
@@ -118,6 +119,25 @@ fn numbers_come_back(rt: HostRuntime) -> Result<(), Fail> {
     let text = text_of(rt.alloc(), &p, &lines)?;
     let expected = "on 1\nsix 33\ntwo 3\noff 0\nall 18446744073709551615\n";
     assert_eq!(rt; text.as_str(), expected);
+    Ok(())
+}
+
+#[test]
+fn the_file_is_that_of_its_cipher(rt: HostRuntime) -> Result<(), Fail> {
+    let Some(p) = named("rx-test") else {
+        panic!(rt; "a set of that name");
+    };
+    let key = SecretKey::large(rt.alloc(), &p, &CLIENT_SEED)?;
+    let lines = [
+        line(&rt, Kind::Int, "six", 6, 33),
+        line(&rt, Kind::Bit, "on", 1, 1),
+    ];
+    let file = encrypt_values(rt.alloc(), &p, &key, &MASK_SEED, &NOISE_SEED, &lines)?;
+    assert_eq!(rt; file.capacity(), file.len());
+    let cipher = decode_cipher(rt.alloc(), file.as_slice())?;
+    let again = encode_cipher(rt.alloc(), &cipher)?;
+    assert_eq!(rt; again.as_slice(), file.as_slice());
+    assert_eq!(rt; again.capacity(), again.len());
     Ok(())
 }
 
