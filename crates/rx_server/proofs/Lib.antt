@@ -1,0 +1,2 @@
+pub mod FoundBlocks
+pub mod OutputItems
