@@ -1,6 +1,7 @@
 -- Refusals: the kind, which gives the status, and the line that reports it. Each line ends with a line feed. A file is named
 -- by the word that named it.
 use Rattle.std.specs.Prelude.{ℕ, ◌+◌, ◌-◌, ◌==◌, List, [], ◌∷◌, ◌++◌, codes, decimal, get_or, Option, Some, None, if◌then◌else◌}
+use Rattle.std.specs.Fmt.{signed_decimal}
 use Rattle.rx_text.specs.declared.fault.LineCause.{LineCause}
 use Rattle.rx_text.specs.declared.fault.LineCause.TheVariants.{Form, Number, Unknown, Kind as WrongKind, Again, Limit as TooMany}
 use Rattle.rx_text.specs.declared.fault.LineFault.{LineFault}
@@ -9,8 +10,12 @@ use Rattle.rx_params.specs.declared.bounds.Refused.{Refused}
 use Rattle.rx_params.specs.declared.bounds.Refused.TheVariants.{Limit as OutsideLimit, NarrowBox, Noise}
 use Rattle.rx_params.specs.Text.{field_names, fields_of}
 use Rattle.rx_codec.specs.declared.fault.CodecFault.{CodecFault}
-use Rattle.rx_codec.specs.declared.fault.CodecFault.TheVariants.{Magic, Short, Long, Field, Params as RefusedParams, Memory}
+use Rattle.rx_net.specs.declared.fault.NetFault.{NetFault}
+use Rattle.rx_net.specs.declared.fault.NetFault.TheVariants.{Forward, Range, Noise as NetNoise, Table, Degree as NetDegree, Output, Limit as NetLimit}
+use Rattle.rx_codec.specs.declared.fault.CodecFault.TheVariants.{Magic, Short, Long, Field, Params as RefusedParams, Net as NotLegal, Memory}
 use Rattle.rx_client.specs.declared.decrypt.Damage.{Damage}
+use Rattle.rx_server.specs.declared.fault.InputFault.{InputFault}
+use Rattle.rx_server.specs.declared.fault.InputFault.TheVariants.{Missing, Twice, Form as WrongForm, Degree, Noise as TooNoisy}
 use Rattle.rx_report.specs.declared.difference.Difference.{Difference}
 use Rattle.rx_report.specs.declared.refusal.Kind.{Kind}
 use Rattle.rx_report.specs.declared.refusal.Kind.TheVariants.{Malformed, NotAccepted, Mismatch, Inputs, Damaged, Limit}
@@ -61,6 +66,21 @@ not_accepted (NarrowBox n p) = (NotAccepted, codes "refused box " ++ (decimal n 
 not_accepted (Noise left right) =
     (NotAccepted, codes "refused noise " ++ (decimal left ++ (codes " " ++ (decimal right ++ 10 ∷ []))))
 
+-- ---- a net that is not legal: its first fault, at the end of a line
+abbrev pub net_words : NetFault → List ℕ
+net_words (Forward job) = codes "forward " ++ (decimal job ++ 10 ∷ [])
+net_words (Range job low high) =
+    codes "range " ++ (decimal job ++ (codes " " ++ (signed_decimal low ++ (codes " " ++ (signed_decimal high ++ 10 ∷ [])))))
+net_words (NetNoise job sum) = codes "noise " ++ (decimal job ++ (codes " " ++ (decimal sum ++ 10 ∷ [])))
+net_words (Table job) = codes "table " ++ (decimal job ++ 10 ∷ [])
+net_words (NetDegree job declared reached) =
+    codes "degree " ++ (decimal job ++ (codes " " ++ (decimal declared ++ (codes " " ++ (decimal reached ++ 10 ∷ [])))))
+net_words (Output index) = codes "output " ++ (decimal index ++ 10 ∷ [])
+net_words (NetLimit field value) = codes "limit " ++ (decimal field ++ (codes " " ++ (decimal value ++ 10 ∷ [])))
+
+abbrev pub illegal_net : List ℕ → NetFault → Report
+illegal_net name fault = (Malformed, codes "malformed " ++ (name ++ (codes " net " ++ net_words fault)))
+
 -- ---- a binary file that has not its format, or whose set is not accepted; want of memory is no refusal
 abbrev pub malformed_binary : List ℕ → CodecFault → Option Report
 malformed_binary name Magic = Some (Malformed, codes "malformed " ++ (name ++ (codes " magic" ++ 10 ∷ [])))
@@ -70,6 +90,7 @@ malformed_binary name (Long extra) =
     Some (Malformed, codes "malformed " ++ (name ++ (codes " long " ++ (decimal extra ++ 10 ∷ []))))
 malformed_binary name (Field at) =
     Some (Malformed, codes "malformed " ++ (name ++ (codes " field " ++ (decimal at ++ 10 ∷ []))))
+malformed_binary name (NotLegal fault) = Some (illegal_net name fault)
 malformed_binary name (RefusedParams refused) = Some (not_accepted refused)
 malformed_binary name Memory = None
 
@@ -96,3 +117,20 @@ wrong_width name bits = (Inputs, codes "inputs " ++ (name ++ (codes " width " ++
 abbrev pub damaged : Damage → Report
 damaged d =
     (Damaged, codes "damaged " ++ (d.name ++ (codes " " ++ (decimal d.block ++ (codes " " ++ (decimal d.decoded ++ (codes " " ++ (decimal d.degree ++ 10 ∷ []))))))))
+
+-- ---- an input of a net that the files do not give as the net wants it
+abbrev pub wrong_input : InputFault → Report
+wrong_input (Missing name) = (Inputs, codes "inputs " ++ (name ++ (codes " missing" ++ 10 ∷ [])))
+wrong_input (Twice name) = (Inputs, codes "inputs " ++ (name ++ (codes " twice" ++ 10 ∷ [])))
+wrong_input (WrongForm name) = (Inputs, codes "inputs " ++ (name ++ (codes " form" ++ 10 ∷ [])))
+wrong_input (Degree name value limit) =
+    (Inputs, codes "inputs " ++ (name ++ (codes " degree " ++ (decimal value ++ (codes " " ++ (decimal limit ++ 10 ∷ []))))))
+wrong_input (TooNoisy name value limit) =
+    (Inputs, codes "inputs " ++ (name ++ (codes " noise " ++ (decimal value ++ (codes " " ++ (decimal limit ++ 10 ∷ []))))))
+
+-- ---- limits of a run
+abbrev pub wrong_workers : ℕ → Report
+wrong_workers count = (Limit, codes "limit workers " ++ (decimal count ++ 10 ∷ []))
+
+abbrev pub wide_board : ℕ → Report
+wide_board words = (Limit, codes "limit board " ++ (decimal words ++ 10 ∷ []))

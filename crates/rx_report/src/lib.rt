@@ -8,5 +8,9 @@ mod reports;
 pub use difference::{Difference, first_difference};
 pub use refusal::{Kind, Refusal};
 pub use reports::{
-    damaged, malformed_binary, malformed_text, mismatch, not_accepted, too_long, wrong_width,
+    damaged, malformed_binary, malformed_text, mismatch, not_accepted, too_long, wide_board,
+    wrong_input, wrong_width, wrong_workers,
 };
+
+#[cfg(test)]
+mod tests;

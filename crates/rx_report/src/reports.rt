@@ -1,13 +1,15 @@
 // The lines of refusals.
-ghost use Rattle.std.specs.Prelude.{◌≡◌, ◌≤◌, IfOk, Some, codes};
+ghost use Rattle.std.specs.Prelude.{◌≡◌, IfOk, Some, string_bytes};
 ghost use Rattle.rx_params.specs.declared.params.Params.{Params};
-ghost use Rattle.rx_report.specs.Reports.{too_long, malformed_text, not_accepted, malformed_binary, mismatch, wrong_width, damaged, cause_word, field_word};
+ghost use Rattle.rx_report.specs.Reports.{too_long, malformed_text, not_accepted, malformed_binary, illegal_net, net_words, mismatch, wrong_width, damaged, wrong_input, wrong_workers, wide_board, cause_word, field_word};
 
 use crate::difference::Difference;
 use crate::{Kind, Refusal};
 use rx_client::Damage;
 use rx_codec::CodecFault;
+use rx_net::NetFault;
 use rx_params::{LineCause, LineFault, Refused};
+use rx_server::InputFault;
 use std::alloc::{AllocError, Global};
 
 /// A file that is longer than the limit, with its length in bytes.
@@ -75,7 +77,7 @@ fn field_word(field: u32) -> &'static str
     }
 }
 
-/// A binary file that has not its format, or whose set is not accepted.
+/// A binary file that has not its format, whose set is not accepted, or whose net is not legal.
 pub fn malformed_binary(alloc: Global, name: &str, fault: CodecFault) -> Result<Refusal, AllocError>
     ensures { IfOk result (λ refusal. malformed_binary name.now fault ≡ Some refusal) }
 {
@@ -87,9 +89,39 @@ pub fn malformed_binary(alloc: Global, name: &str, fault: CodecFault) -> Result<
         CodecFault::Long { extra } => format!(in alloc; "malformed {name} long {extra}\n")?,
         CodecFault::Field { at } => format!(in alloc; "malformed {name} field {at}\n")?,
         CodecFault::Params(refused) => return not_accepted(alloc, refused),
+        CodecFault::Net(fault) => return illegal_net(alloc, name, fault),
         CodecFault::Memory => return Err(AllocError),
     };
     Ok(Refusal::new(Kind::Malformed, line))
+}
+
+// A net that is not legal.
+fn illegal_net(alloc: Global, name: &str, fault: NetFault) -> Result<Refusal, AllocError>
+    ensures { IfOk result (λ refusal. refusal ≡ illegal_net name.now fault) }
+{
+    let words = net_words(alloc, fault)?;
+    let words = words.as_str();
+    let line = format!(in alloc; "malformed {name} net {words}")?;
+    Ok(Refusal::new(Kind::Malformed, line))
+}
+
+// The end of the line of a net, from its fault on.
+fn net_words(alloc: Global, fault: NetFault) -> Result<String, AllocError>
+    ensures { IfOk result (λ words. string_bytes words ≡ net_words fault) }
+{
+    match fault {
+        NetFault::Forward { job } => format!(in alloc; "forward {job}\n"),
+        NetFault::Range { job, low, high } => format!(in alloc; "range {job} {low} {high}\n"),
+        NetFault::Noise { job, sum } => format!(in alloc; "noise {job} {sum}\n"),
+        NetFault::Table { job } => format!(in alloc; "table {job}\n"),
+        NetFault::Degree {
+            job,
+            declared,
+            reached,
+        } => format!(in alloc; "degree {job} {declared} {reached}\n"),
+        NetFault::Output { index } => format!(in alloc; "output {index}\n"),
+        NetFault::Limit { field, value } => format!(in alloc; "limit {field} {value}\n"),
+    }
 }
 
 /// A file whose set differs from that of the first file.
@@ -121,4 +153,49 @@ pub fn damaged(alloc: Global, damage: &Damage) -> Result<Refusal, AllocError>
     let degree = damage.degree;
     let line = format!(in alloc; "damaged {name} {block} {decoded} {degree}\n")?;
     Ok(Refusal::new(Kind::Damaged, line))
+}
+
+/// An input of a net that the files do not give as the net wants it.
+pub fn wrong_input(alloc: Global, fault: InputFault) -> Result<Refusal, AllocError>
+    ensures { IfOk result (λ refusal. refusal ≡ wrong_input fault) }
+{
+    let line = match fault {
+        InputFault::Missing(name) => {
+            let name = name.as_str();
+            format!(in alloc; "inputs {name} missing\n")?
+        }
+        InputFault::Twice(name) => {
+            let name = name.as_str();
+            format!(in alloc; "inputs {name} twice\n")?
+        }
+        InputFault::Form(name) => {
+            let name = name.as_str();
+            format!(in alloc; "inputs {name} form\n")?
+        }
+        InputFault::Degree { name, value, limit } => {
+            let name = name.as_str();
+            format!(in alloc; "inputs {name} degree {value} {limit}\n")?
+        }
+        InputFault::Noise { name, value, limit } => {
+            let name = name.as_str();
+            format!(in alloc; "inputs {name} noise {value} {limit}\n")?
+        }
+    };
+    Ok(Refusal::new(Kind::Inputs, line))
+}
+
+/// A number of workers outside its limits.
+pub fn wrong_workers(alloc: Global, count: u64) -> Result<Refusal, AllocError>
+    ensures { IfOk result (λ refusal. refusal ≡ wrong_workers count) }
+{
+    let line = format!(in alloc; "limit workers {count}\n")?;
+    Ok(Refusal::new(Kind::Limit, line))
+}
+
+/// A net whose cells take more words than the limit of a run.
+pub fn wide_board(alloc: Global, words: u64) -> Result<Refusal, AllocError>
+    ensures { IfOk result (λ refusal. refusal ≡ wide_board words) }
+{
+    let line = format!(in alloc; "limit board {words}\n")?;
+    Ok(Refusal::new(Kind::Limit, line))
 }
