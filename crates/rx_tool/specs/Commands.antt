@@ -1,14 +1,16 @@
 -- The commands: the words that name each, the files that it reads, what refuses it and what it does. A new command adds a
 -- case to each definition here, and a file of its own.
-use Rattle.std.specs.Prelude.{ℕ, List, [], ◌∷◌, codes, Option, Some, None, if◌then◌else◌}
+use Rattle.std.specs.Prelude.{ℕ, List, [], ◌∷◌, codes, Option, None, if◌then◌else◌}
 use Rattle.std.specs.Str.{bytes_eq}
 use Rattle.rx_report.specs.Reports.{Report}
 use Rattle.rx_tool.specs.declared.command.Command.{Command}
-use Rattle.rx_tool.specs.declared.command.Command.TheVariants.{Check, MakeClient, Encrypt, Decrypt}
+use Rattle.rx_tool.specs.declared.command.Command.TheVariants.{Check, MakeClient, Keygen, Encrypt, Run, Decrypt}
 use Rattle.rx_tool.specs.Sources.{source_reads, source_refusal}
 use Rattle.rx_tool.specs.Check.{check_of, CheckDoes}
 use Rattle.rx_tool.specs.MakeClient.{client_of, ClientDoes}
+use Rattle.rx_tool.specs.Keygen.{keygen_of, keygen_refusal, KeygenDoes}
 use Rattle.rx_tool.specs.Encrypt.{encrypt_of, encrypt_refusal, EncryptDoes}
+use Rattle.rx_tool.specs.Run.{run_of, run_refusal, RunDoes}
 use Rattle.rx_tool.specs.Decrypt.{decrypt_of, decrypt_refusal, DecryptDoes}
 
 -- the command of some words, none where they are no command
@@ -17,7 +19,9 @@ command_of [] = None
 command_of (word ∷ arguments) =
     if bytes_eq word (codes "check") then check_of arguments
     else if bytes_eq word (codes "client") then client_of arguments
+    else if bytes_eq word (codes "keygen") then keygen_of arguments
     else if bytes_eq word (codes "encrypt") then encrypt_of arguments
+    else if bytes_eq word (codes "run") then run_of arguments
     else if bytes_eq word (codes "decrypt") then decrypt_of arguments
     else None
 
@@ -25,20 +29,26 @@ command_of (word ∷ arguments) =
 abbrev pub reads_of : Command → List (List ℕ)
 reads_of (Check source) = source_reads source
 reads_of (MakeClient source seed client) = source_reads source
+reads_of (Keygen client mask_seed server) = client ∷ []
 reads_of (Encrypt client mask_seed noise_seed values out) = client ∷ values ∷ []
+reads_of (Run server net workers out inputs) = server ∷ net ∷ inputs
 reads_of (Decrypt client input) = client ∷ input ∷ []
 
 -- the first refusal of a command whose files were all read whole, or none
 abbrev pub command_refusal : Command → List (List ℕ) → Option Report
 command_refusal (Check source) files = source_refusal source files
 command_refusal (MakeClient source seed client) files = source_refusal source files
+command_refusal (Keygen client mask_seed server) files = keygen_refusal client files
 command_refusal (Encrypt client mask_seed noise_seed values out) files = encrypt_refusal client values files
+command_refusal (Run server net workers out inputs) files = run_refusal server net workers inputs files
 command_refusal (Decrypt client input) files = decrypt_refusal client input files
 
 -- A command that is not refused writes these files in this order, and then prints these bytes.
 abbrev pub Does : Command → List (List ℕ) → List (List ℕ × List ℕ) → List ℕ → Type 0
 Does (Check source) files writes lines = CheckDoes source files writes lines
 Does (MakeClient source seed client) files writes lines = ClientDoes source seed client files writes lines
+Does (Keygen client mask_seed server) files writes lines = KeygenDoes mask_seed server files writes lines
 Does (Encrypt client mask_seed noise_seed values out) files writes lines =
     EncryptDoes mask_seed noise_seed out files writes lines
+Does (Run server net workers out inputs) files writes lines = RunDoes out files writes lines
 Does (Decrypt client input) files writes lines = DecryptDoes files writes lines

@@ -1,7 +1,6 @@
 -- decrypt CLIENT IN: prints the number of each item.
 use Rattle.std.specs.Prelude.{ℕ, ◌≡◌, List, [], ◌∷◌, Option, Some, None, Result, Ok, Err}
 use Rattle.std.specs.Option.{option_map}
-use Rattle.rx_params.specs.declared.params.Params.{Params}
 use Rattle.rx_lwe.specs.Secret.{large_key}
 use Rattle.rx_codec.specs.declared.client.Client.{Client}
 use Rattle.rx_codec.specs.declared.cipher.Cipher.{Cipher}

@@ -2,7 +2,9 @@ pub mod Words
 pub mod Sources
 pub mod Check
 pub mod MakeClient
+pub mod Keygen
 pub mod Encrypt
+pub mod Run
 pub mod Decrypt
 pub mod Commands
 pub mod Answers

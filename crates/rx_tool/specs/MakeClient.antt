@@ -1,10 +1,9 @@
 -- client P SEED CLIENT: writes the client file of a set and a seed.
-use Rattle.std.specs.Prelude.{ℕ, ◌≡◌, List, [], ◌∷◌, Option, Some, None}
+use Rattle.std.specs.Prelude.{ℕ, ◌≡◌, List, [], ◌∷◌, Option, None}
 use Rattle.std.specs.Option.{option_map}
 use Rattle.std.specs.Result.{result_ok}
 use Rattle.hex.specs.Hex.{decode_sized}
 use Rattle.rx_params.specs.declared.params.Params.{Params}
-use Rattle.rx_codec.specs.declared.client.Client.{Client}
 use Rattle.rx_codec.specs.ClientFile.{ClientFile}
 use Rattle.rx_tool.specs.declared.command.Source.{Source}
 use Rattle.rx_tool.specs.declared.command.Command.{Command}

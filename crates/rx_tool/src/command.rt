@@ -4,14 +4,20 @@ ghost use Rattle.rx_tool.specs.Commands.{command_of, reads_of};
 ghost use Rattle.rx_tool.specs.Sources.{source_of, source_reads};
 ghost use Rattle.rx_tool.specs.Check.{check_of};
 ghost use Rattle.rx_tool.specs.MakeClient.{client_of, seed_of};
+ghost use Rattle.rx_tool.specs.Keygen.{keygen_of};
 ghost use Rattle.rx_tool.specs.Encrypt.{encrypt_of};
+ghost use Rattle.rx_tool.specs.Run.{number_of, run_of};
 ghost use Rattle.rx_tool.specs.Decrypt.{decrypt_of};
 ghost use Rattle.rx_tool.specs.Words.{texts};
 
-use crate::text::Word;
+use crate::text::{Names, Word};
 use hex::FromHex;
 use rx_params::{Params, named};
+use rx_text::Numeral;
 use std::alloc::{AllocError, Global};
+
+/// The most ciphertext files of a run.
+const MOST_INPUTS: usize = 64;
 
 /// Where a parameter set comes from.
 #[derive(Drop)]
@@ -29,8 +35,12 @@ pub enum Command<'a> {
     Check(Source<'a>),
     /// `client P SEED CLIENT`.
     MakeClient(Source<'a>, [u8; 32], Word<'a>),
+    /// `keygen CLIENT MASKSEED SERVER`.
+    Keygen(Word<'a>, [u8; 32], Word<'a>),
     /// `encrypt CLIENT MASKSEED NOISESEED VALUES OUT`.
     Encrypt(Word<'a>, [u8; 32], [u8; 32], Word<'a>, Word<'a>),
+    /// `run SERVER NET WORKERS OUT IN..`, with up to 64 names of inputs.
+    Run(Word<'a>, Word<'a>, u64, Word<'a>, Names<'a>),
     /// `decrypt CLIENT IN`.
     Decrypt(Word<'a>, Word<'a>),
 }
@@ -45,8 +55,12 @@ pub fn parse(words: &[String]) -> Option<Command<'_>>
         parse_check(arguments)
     } else if word == "client" {
         parse_client(arguments)
+    } else if word == "keygen" {
+        parse_keygen(arguments)
     } else if word == "encrypt" {
         parse_encrypt(arguments)
+    } else if word == "run" {
+        parse_run(arguments)
     } else if word == "decrypt" {
         parse_decrypt(arguments)
     } else {
@@ -68,6 +82,16 @@ fn parse_seed(word: &str) -> Option<[u8; 32]>
     ensures { result ≡ seed_of word.now }
 {
     <[u8; 32] as FromHex>::from_hex(word).ok()
+}
+
+/// A number is a numeral below 2^64.
+fn parse_number(word: &str) -> Option<u64>
+    ensures { result ≡ number_of word.now }
+{
+    match Numeral::of(word.as_bytes()) {
+        Some(Numeral::Word(number)) => Some(number),
+        _ => None,
+    }
 }
 
 fn parse_check(arguments: &[String]) -> Option<Command<'_>>
@@ -92,6 +116,22 @@ fn parse_client(arguments: &[String]) -> Option<Command<'_>>
     }
 }
 
+fn parse_keygen(arguments: &[String]) -> Option<Command<'_>>
+    ensures { result ≡ keygen_of (texts arguments.now) }
+{
+    match arguments {
+        [client, mask_seed, server] => {
+            let mask_seed = parse_seed(mask_seed.as_str())?;
+            Some(Command::Keygen(
+                Word::new(client.as_str()),
+                mask_seed,
+                Word::new(server.as_str()),
+            ))
+        }
+        _ => None,
+    }
+}
+
 fn parse_encrypt(arguments: &[String]) -> Option<Command<'_>>
     ensures { result ≡ encrypt_of (texts arguments.now) }
 {
@@ -105,6 +145,27 @@ fn parse_encrypt(arguments: &[String]) -> Option<Command<'_>>
                 noise_seed,
                 Word::new(values.as_str()),
                 Word::new(out.as_str()),
+            ))
+        }
+        _ => None,
+    }
+}
+
+fn parse_run(arguments: &[String]) -> Option<Command<'_>>
+    ensures { result ≡ run_of (texts arguments.now) }
+{
+    match arguments {
+        [server, net, workers, out, inputs @ ..] => {
+            if inputs.len() > MOST_INPUTS {
+                return None;
+            }
+            let workers = parse_number(workers.as_str())?;
+            Some(Command::Run(
+                Word::new(server.as_str()),
+                Word::new(net.as_str()),
+                workers,
+                Word::new(out.as_str()),
+                Names::new(inputs),
             ))
         }
         _ => None,
@@ -133,7 +194,9 @@ impl<'a> Command<'a> {
         match self {
             Command::Check(source) => source.reads(alloc),
             Command::MakeClient(source, _, _) => source.reads(alloc),
+            Command::Keygen(client, _, _) => one(alloc, client),
             Command::Encrypt(client, _, _, values, _) => both(alloc, client, values),
+            Command::Run(server, net, _, _, inputs) => both_and(alloc, server, net, inputs),
             Command::Decrypt(client, input) => both(alloc, client, input),
         }
     }
@@ -153,11 +216,34 @@ impl<'a> Source<'a> {
     }
 }
 
+fn one<'a>(alloc: Global, name: &Word<'a>) -> Result<Vec<Word<'a>>, AllocError>
+    ensures { IfOk result (λ names. names.items ≡ name.now ∷ []) }
+{
+    let mut names = Vec::new(alloc);
+    names.push(Word::new(name.as_str()))?;
+    Ok(names)
+}
+
 fn both<'a>(alloc: Global, first: &Word<'a>, second: &Word<'a>) -> Result<Vec<Word<'a>>, AllocError>
     ensures { IfOk result (λ names. names.items ≡ first.now ∷ second.now ∷ []) }
 {
     let mut names = Vec::new(alloc);
     names.push(Word::new(first.as_str()))?;
     names.push(Word::new(second.as_str()))?;
+    Ok(names)
+}
+
+fn both_and<'a>(
+    alloc: Global,
+    first: &Word<'a>,
+    second: &Word<'a>,
+    others: &Names<'a>,
+) -> Result<Vec<Word<'a>>, AllocError>
+    ensures { IfOk result (λ names. names.items ≡ first.now ∷ second.now ∷ others.now) }
+{
+    let mut names = both(alloc, first, second)?;
+    for word in others.words() {
+        names.push(Word::new(word.as_str()))?;
+    }
     Ok(names)
 }

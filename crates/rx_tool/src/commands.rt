@@ -3,9 +3,15 @@ mod check;
 mod client;
 mod decrypt;
 mod encrypt;
+mod keygen;
 mod parts;
+mod run;
+mod run_checks;
+mod run_inputs;
 
 pub use check::check_set;
 pub use client::make_client;
 pub use decrypt::decrypt_numbers;
 pub use encrypt::encrypt_numbers;
+pub use keygen::make_server;
+pub use run::run_net_files;

@@ -6,11 +6,10 @@ mod command;
 mod commands;
 mod done;
 mod engine;
-mod gate;
 mod text;
 mod top;
 
-pub use gate::{Gate, OpenGate};
+pub use rx_crew::{Gate, OpenGate};
 pub use top::tool;
 
 /// The greatest length of a file that is read, in bytes.

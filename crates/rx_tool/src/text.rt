@@ -1,5 +1,6 @@
-// A word of the command line, and the bytes of a file, which contracts see as lists of bytes.
+// Words of the command line, and the bytes of a file, which contracts see as lists of bytes.
 ghost use Rattle.std.specs.Prelude.{◌≡◌};
+ghost use Rattle.rx_tool.specs.Words.{texts};
 
 use std::marker::Model;
 
@@ -30,6 +31,37 @@ impl<'a> Word<'a> {
         ensures { result.now ≡ self.now }
     {
         self.text
+    }
+}
+
+/// Words, as the names of files.
+#[derive(Drop)]
+pub struct Names<'a> {
+    words: &'a [String],
+}
+
+impl<'a> Model for Names<'a> {
+    ghost use Rattle.std.specs.Prelude.{List, ℕ};
+    ghost use Rattle.rx_tool.specs.Words.{texts};
+
+    ghost Value = { List (List ℕ) };
+
+    ghost view = { λ n. texts n.words.now };
+}
+
+impl<'a> Names<'a> {
+    /// The names that these words are, without a copy.
+    pub fn new(words: &'a [String]) -> Names<'a>
+        ensures { result ≡ texts words.now }
+    {
+        Names { words }
+    }
+
+    /// The words, lent.
+    pub fn words(&self) -> &'a [String]
+        ensures { texts result.now ≡ self.now }
+    {
+        self.words
     }
 }
 

@@ -13,11 +13,13 @@ ghost use Rattle.rx_tool.specs.Ran.{Ran, world};
 ghost use Rattle.rx_tool.specs.Parts.{ReportGives, GivesUp, Performs};
 
 use crate::command::{Command, parse};
-use crate::commands::{check_set, decrypt_numbers, encrypt_numbers, make_client};
+use crate::commands::{
+    check_set, decrypt_numbers, encrypt_numbers, make_client, make_server, run_net_files,
+};
 use crate::done::{Done, Output, Stop};
 use crate::engine::{read_all, write_all};
-use crate::gate::Gate;
 use crate::text::Bytes;
+use rx_crew::Gate;
 use rx_store::{Sink, Store, WriteError};
 use std::alloc::Global;
 use std::thread::Threads;
@@ -114,11 +116,11 @@ fn run<R: Threads + Sync, S: Store, K: Sink, G: Gate + Sync>(
 
 /// What a command makes of the files that it reads.
 fn answer<R: Threads + Sync, G: Gate + Sync>(
-    _rt: &R,
+    rt: &R,
     alloc: Global,
     command: &Command<'_>,
     files: &[Bytes],
-    _gate: &G,
+    gate: &G,
 ) -> Result<Done, Stop>
     requires { length files.now ≡ length (reads_of command.now) }
     ensures { Answers command.now files.now result }
@@ -128,9 +130,15 @@ fn answer<R: Threads + Sync, G: Gate + Sync>(
         Command::MakeClient(source, seed, client) => {
             make_client(alloc, source, seed, client, files)
         }
+        Command::Keygen(client, mask_seed, server) => {
+            make_server(alloc, client, mask_seed, server, files)
+        }
         Command::Encrypt(client, mask_seed, noise_seed, values, out) => {
             encrypt_numbers(alloc, client, mask_seed, noise_seed, values, out, files)
         }
+        Command::Run(server, net, workers, out, inputs) => run_net_files(
+            rt, alloc, server, net, *workers, out, inputs, files, gate,
+        ),
         Command::Decrypt(client, input) => decrypt_numbers(alloc, client, input, files),
     }
 }

@@ -15,7 +15,7 @@ use crate::done::{Done, Stop};
 use crate::text::{Bytes, Word};
 use rx_circuit::{ParseError, Values, read_values};
 use rx_client::{encrypt_values, wrong_width_in};
-use rx_codec::{Client, decode_client, encode_cipher};
+use rx_codec::{Client, decode_client};
 use rx_lwe::SecretKey;
 use rx_report::{malformed_binary, malformed_text, wrong_width};
 use std::alloc::{AllocError, Global};
@@ -69,13 +69,12 @@ fn encrypted(
         (encryption keys.now mask_seed.now noise_seed.now lines.now).items lines.now) }
 {
     let key = SecretKey::large(alloc, &keys.params, &keys.seed)?;
-    let cipher = encrypt_values(
+    encrypt_values(
         alloc,
         &keys.params,
         &key,
         mask_seed,
         noise_seed,
         lines.lines(),
-    )?;
-    encode_cipher(alloc, &cipher)
+    )
 }

@@ -1,0 +1,32 @@
+// keygen CLIENT MASKSEED SERVER: writes the server file of a client's key.
+ghost use Rattle.std.specs.Prelude.{◌≡◌, length};
+ghost use Rattle.rx_tool.specs.Answers.{Answers};
+ghost use Rattle.rx_tool.specs.declared.command.Command.TheVariants.{Keygen};
+
+use crate::commands::parts::{one_file, stop_for};
+use crate::done::{Done, Stop};
+use crate::text::{Bytes, Word};
+use rx_boot::ServerKey;
+use rx_codec::{decode_client, encode_server};
+use rx_report::malformed_binary;
+use std::alloc::Global;
+
+/// Makes the server key of a client.
+pub fn make_server(
+    alloc: Global,
+    client: &Word<'_>,
+    mask_seed: &[u8; 32],
+    server: &Word<'_>,
+    files: &[Bytes],
+) -> Result<Done, Stop>
+    requires { length files.now ≡ 1 }
+    ensures { Answers (Keygen client.now mask_seed.now server.now) files.now result }
+{
+    let keys = match decode_client(files[0].as_slice()) {
+        Ok(keys) => keys,
+        Err(fault) => return Err(stop_for(malformed_binary(alloc, client.as_str(), fault))),
+    };
+    let key = ServerKey::make(alloc, &keys.params, &keys.seed, mask_seed)?;
+    let bytes = encode_server(alloc, &key)?;
+    Ok(one_file(alloc, server, bytes)?)
+}
