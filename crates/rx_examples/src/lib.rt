@@ -6,6 +6,14 @@ mod balky;
 #[cfg(test)]
 mod files;
 #[cfg(test)]
+mod nets;
+#[cfg(test)]
 mod runs;
 #[cfg(test)]
 mod tests;
+#[cfg(test)]
+mod tests_lookups;
+#[cfg(test)]
+mod tests_run;
+#[cfg(test)]
+mod tests_server;
