@@ -15,3 +15,4 @@ pub mod Bootstrap
 pub mod TurnWords
 pub mod Combination
 mod Examples
+mod ExamplesRows
