@@ -2,3 +2,4 @@ pub mod Words
 pub mod Halves
 pub mod Terms
 pub mod Convolutions
+mod Examples
