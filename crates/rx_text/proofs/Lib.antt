@@ -1,3 +1,4 @@
 pub mod NameLemmas
 pub mod Splits
 pub mod NumeralLemmas
+mod Examples

@@ -73,7 +73,8 @@ impl Name {
 
     /// The name as text.
     pub fn as_str(&self) -> &str
-        ensures { result.now ≡ self.now }
+        ensures value { result.now ≡ self.now }
+        ensures name { IsTrue (is_name self.now) }
     {
         match str::from_utf8(&self.bytes[..self.len]) {
             Ok(text) => text,
@@ -83,7 +84,8 @@ impl Name {
 
     /// The bytes of the name.
     pub fn as_bytes(&self) -> &[u8]
-        ensures { result.now ≡ self.now }
+        ensures value { result.now ≡ self.now }
+        ensures name { IsTrue (is_name self.now) }
     {
         &self.bytes[..self.len]
     }
