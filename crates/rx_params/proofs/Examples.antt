@@ -1,9 +1,12 @@
 -- Worked values of the sums and of the refusals.
-use Rattle.std.proofs.Common.{◌≡◌, Ok, Err, refl}
+use Rattle.std.proofs.Common.{◌≡◌, ◌-◌, ◌^◌, true, false, Ok, Err, Some, None, refl}
+use Rattle.std.specs.Prelude.{codes}
+use Rattle.rx_params.specs.declared.kind.Kind.TheVariants.{Int, Bit}
 use Rattle.rx_params.specs.declared.bounds.Refused.TheVariants.{Limit, NarrowBox, Noise}
-use Rattle.rx_params.specs.Derived.{key_words, rest_of, step_of, boot_of, base_of, switch_of, round_of, left_of, right_of}
+use Rattle.rx_params.specs.Derived.{large_dim, noise_limit, key_words, rest_of, step_of, boot_of, base_of, switch_of, round_of, left_of, right_of}
 use Rattle.rx_params.specs.Acceptance.{refusal_of, checked}
-use Rattle.rx_params.specs.Sets.{set_of, rx_2_2, rx_test, rx_3_3, rx_k2}
+use Rattle.rx_params.specs.Sets.{set_of, rx_2_2, rx_test, rx_3_3, rx_k2, named_of}
+use Rattle.rx_params.specs.Kinds.{greatest, block_count, is_form, digit_at}
 
 checked-rx_2_2 : checked rx_2_2 ≡ Ok (record {
   step = 282574488338432;
@@ -42,3 +45,22 @@ checked-poly_size = refl
 checked-box : checked (set_of 3 1 64 24 12 3 5 6 17 20) ≡ Err (NarrowBox 64 64)
 unfolding key_words refusal_of
 checked-box = refl
+
+-- ---- sizes, names, and numbers as blocks
+sizes : (large_dim rx_k2 ≡ 512) × (key_words rx_test ≡ 30208) × (key_words rx_2_2 ≡ 175104) × (noise_limit 2 ≡ 5) × (noise_limit 3 ≡ 9)
+unfolding large_dim key_words
+sizes = (refl, refl, refl, refl, refl)
+
+names : (named_of (codes "rx-3-3") ≡ Some rx_3_3) × (named_of (codes "rx-2-3") ≡ None) × (named_of (codes "rx-tes") ≡ None)
+names = (refl, refl, refl)
+
+-- 200 in blocks of two bits is 0, 2, 0, 3
+digits_of_200 : (digit_at 2 200 0 ≡ 0) × (digit_at 2 200 1 ≡ 2) × (digit_at 2 200 2 ≡ 0) × (digit_at 2 200 3 ≡ 3) × (digit_at 2 (2 ^ 64 - 1) 31 ≡ 3) × (digit_at 3 (2 ^ 63 - 1) 20 ≡ 7)
+digits_of_200 = (refl, refl, refl, refl, refl, refl)
+
+-- 63 bits are 21 blocks of three, and 64 bits are none
+blocks : (block_count Int 2 64 ≡ 32) × (block_count Int 3 63 ≡ 21) × (block_count Bit 3 1 ≡ 1) × (greatest Int 3 ≡ 7) × (greatest Bit 3 ≡ 1)
+blocks = (refl, refl, refl, refl, refl)
+
+forms : (is_form 3 Int 63 ≡ true) × (is_form 3 Int 64 ≡ false) × (is_form 2 Int 66 ≡ false) × (is_form 2 Int 0 ≡ false) × (is_form 2 Bit 1 ≡ true) × (is_form 2 Bit 2 ≡ false)
+forms = (refl, refl, refl, refl, refl, refl)
