@@ -1,5 +1,6 @@
 -- What callers see of a store and a sink over the real thing, and what a read of a real file answers.
-use Rattle.std.specs.Prelude.{◌≡◌, ◌<◌, ◌≤◌, ℕ, ◌+◌, List, length, Option, IfSome, Result, Ok, Err, Vec}
+use Rattle.std.specs.Prelude.{◌≡◌, ◌<◌, ◌≤◌, ℕ, ◌+◌, List, length, take, Option, IfSome, Result, Ok, Err, Vec}
+use Rattle.std.specs.Io.KnownBytes.{Appends}
 use Rattle.std.specs.declared.alloc.Global.{Global}
 use Rattle.rx_store.specs.declared.faults.ReadError.{ReadError}
 use Rattle.rx_store.specs.declared.faults.ReadError.TheVariants.{Missing, TooLong, Failed, Memory}
@@ -29,3 +30,7 @@ GivesAllLeft left limit (Err (TooLong _)) = IfSome left (λ all. limit < length 
 GivesAllLeft left limit (Err Missing) = ⊥
 GivesAllLeft left limit (Err Failed) = Unit {0}
 GivesAllLeft left limit (Err (Memory _)) = Unit {0}
+
+-- Where a writer tells what it has taken: some first bytes of these more, and nothing else.
+abbrev pub TakesPart : Option (List ℕ) → Option (List ℕ) → List ℕ → Type 0
+TakesPart before after bytes = (count : ℕ) × Appends before after (take count bytes)

@@ -1,7 +1,7 @@
 // A store over the files of the system. It tells nothing of what they hold.
-ghost use Rattle.std.specs.Prelude.{◌≡◌, OnOk, None};
+ghost use Rattle.std.specs.Prelude.{◌≡◌, OnErr, OnOk, None};
 ghost use Rattle.std.specs.Io.KnownBytes.{Appends};
-ghost use Rattle.rx_store.specs.Real.{ReadsUpTo, GivesAllLeft};
+ghost use Rattle.rx_store.specs.Real.{ReadsUpTo, GivesAllLeft, TakesPart};
 ghost use Rattle.rx_store.specs.Counts.{counted};
 ghost use Rattle.rx_store.specs.Failed.{read_failed, write_failed};
 ghost use Rattle.rx_store.specs.StoreCalls.{ReadGives, ReadCounts, WriteCounts};
@@ -122,16 +122,21 @@ fn write_file<F: Files>(files: &F, name: &str, bytes: &[u8]) -> Result<(), Write
     write_whole(&mut file, bytes)
 }
 
-/// Writes all the bytes. A write that takes none of those that are left is a failure.
+/// Writes all the bytes. A write that takes none of those that are left is a failure. After a failure some first
+/// bytes of them were written, and nothing else.
 pub(crate) fn write_whole<W: Write>(writer: &mut W, bytes: &[u8]) -> Result<(), WriteError>
-    ensures { OnOk result (Appends (W.contents writer.old) (W.contents writer.new) bytes.now) }
+    ensures whole { OnOk result (Appends (W.contents writer.old) (W.contents writer.new) bytes.now) }
+    ensures part { OnErr result (TakesPart (W.contents writer.old) (W.contents writer.new) bytes.now) }
 {
     let mut rest = bytes;
     while !rest.is_empty() {
-        match writer.write(rest) {
-            Ok(0) | Err(_) => return Err(WriteError::Failed),
-            Ok(count) => rest = &rest[count..],
+        let Ok(taken) = writer.write(rest) else {
+            return Err(WriteError::Failed);
+        };
+        if taken == 0 {
+            return Err(WriteError::Failed);
         }
+        rest = &rest[taken..];
     }
     Ok(())
 }

@@ -1,8 +1,9 @@
 // A sink over a writer of the system. It tells nothing of what was written.
-ghost use Rattle.std.specs.Prelude.{◌≡◌, OnOk, None};
+ghost use Rattle.std.specs.Prelude.{◌≡◌, OnErr, OnOk, None};
 ghost use Rattle.std.specs.Io.KnownBytes.{Appends};
 ghost use Rattle.rx_store.specs.Counts.{counted};
 ghost use Rattle.rx_store.specs.Failed.{write_failed};
+ghost use Rattle.rx_store.specs.Real.{TakesPart};
 ghost use Rattle.rx_store.specs.StoreCalls.{WriteCounts};
 
 use crate::directory::write_whole;
@@ -46,6 +47,7 @@ impl<W: Write> Sink for OutSink<W> {
         ensures counts { WriteCounts self.old.faults self.new.faults result }
         ensures counted { self.new.faults ≡ counted (write_failed result) self.old.faults }
         ensures whole { OnOk result (Appends self.old.taken self.new.taken piece.now) }
+        ensures part { OnErr result (TakesPart self.old.taken self.new.taken piece.now) }
     {
         let result = write_whole(&mut self.writer, piece);
         if let Err(WriteError::Failed) = &result {
