@@ -7,3 +7,4 @@ pub mod Rows
 pub mod Marks
 pub mod Made
 pub mod Switched
+mod Examples
