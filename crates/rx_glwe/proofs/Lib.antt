@@ -4,3 +4,4 @@ pub mod Columns
 pub mod Extractions
 pub mod Rows
 pub mod ExternalSums
+mod Examples
