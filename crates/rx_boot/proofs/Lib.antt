@@ -4,3 +4,6 @@ pub mod HiddenWords
 pub mod MadeKeys
 pub mod MarkPowers
 pub mod Turning
+pub mod Budget
+pub mod Lookup
+mod Examples

@@ -1,5 +1,5 @@
 -- The server key that a client's seed makes: its sizes, its words and what its rows hide.
-use Rattle.std.proofs.Common.{◌≡◌, ℕ, ℤ, ◌+◌, ◌*◌, ◌/◌, ◌%◌, ◌^◌, ◌<◌, refl, sym, ◌∙◌, ap, arith, List, length, get_or, map}
+use Rattle.std.proofs.Common.{◌≡◌, ℕ, ℤ, ◌+◌, ◌*◌, ◌/◌, ◌%◌, ◌^◌, ◌<◌, ◌≤◌, refl, sym, ◌∙◌, ap, arith, List, length, get_or, map}
 use Rattle.std.specs.List.{range_with_len, flat_map}
 use Rattle.std.proofs.lemmas.List.FromFn.{get_or-map-range_with_len}
 use Rattle.std.proofs.lemmas.Nat.{div-add-mod', div_below, mod_below}
@@ -7,7 +7,7 @@ use Rattle.rx_laws.specs.Torus.{word}
 use Rattle.rx_laws.specs.Words.{words_below}
 use Rattle.rx_laws.proofs.Torus.{word-lt}
 use Rattle.rx_params.specs.declared.params.Params.{Params}
-use Rattle.rx_params.specs.Acceptance.{FieldsInRange}
+use Rattle.rx_params.specs.Acceptance.{FieldsInRange, Accepts}
 use Rattle.rx_params.specs.Derived.{large_dim, key_words}
 use Rattle.rx_params.proofs.Sizes.{square}
 use Rattle.rx_lwe.specs.Lwe.{encrypted}
@@ -97,6 +97,12 @@ all_words p =
     let k : ℕ = p.glwe_dim + 1 in
     ap (λ x. x + p.glwe_dim * p.poly_size * p.ks_level * (p.lwe_dim + 1))
     (in_order p.lwe_dim k p.pbs_level p.poly_size ∙ ap (λ x. p.lwe_dim * x * p.pbs_level * p.poly_size) (sym (square k)))
+
+pub boot_size-few : (p : Params) → Accepts p → boot_size p ≤ 2 ^ 24
+boot_size-few p h = omega (arith, all_words p, h.key)
+
+pub switch_size-few : (p : Params) → Accepts p → switch_size p ≤ 2 ^ 24
+switch_size-few p h = omega (arith, all_words p, h.key)
 
 pub made_near : (p : Params) (client_seed mask_seed : List ℕ) → FieldsInRange p →
     IsServerKey (small_key p client_seed) (large_key p client_seed) (server_key p client_seed mask_seed)

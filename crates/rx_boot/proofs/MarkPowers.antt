@@ -18,7 +18,7 @@ power_is r log low high = by (cases_lt r log) (cases_lt log r) (cases_lt (r + 1)
     by (inr p) (inl q) _ = absurd (omega (arith, pow_below log r q))
     by (inr p) (inr q) _ = omega arith
 
-half_is : (r n : ℕ) → r ≤ 12 → 2 ^ r ≡ n → 2 ^ (62 - r) ≡ 2 ^ 62 / n
+pub half_is : (r n : ℕ) → r ≤ 12 → 2 ^ r ≡ n → 2 ^ (62 - r) ≡ 2 ^ 62 / n
 half_is r n high size =
     let parts : 62 - r + r ≡ 62 = omega arith in
     let whole : 2 ^ (62 - r) * 2 ^ r ≡ 2 ^ 62 = sym (pow-add 2 (62 - r) r) ∙ ap (λ k. 2 ^ k) parts in

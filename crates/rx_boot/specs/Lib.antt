@@ -2,3 +2,5 @@ pub mod BootKeys
 pub mod ServerKeys
 pub mod Bootstrap
 pub mod Laws
+pub mod Noise
+pub mod NoiseLaws

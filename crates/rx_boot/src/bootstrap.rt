@@ -3,6 +3,7 @@ ghost use Rattle.std.specs.Prelude.{◌≡◌, ◌+◌, length};
 ghost use Rattle.rx_laws.specs.Decode.{plaintexts};
 ghost use Rattle.rx_params.specs.Derived.{large_dim};
 ghost use Rattle.rx_boot.specs.Bootstrap.{bootstrapped};
+ghost use Rattle.rx_boot.specs.Noise.{LooksUp};
 
 use crate::rotation::rotate;
 use crate::{BootScratch, ServerKey};
@@ -11,7 +12,8 @@ use rx_lwe::switch_into;
 
 /// Looks up a table in a ciphertext under the large key: writes a ciphertext of the table's entry at the
 /// number that `input` holds into `out`. The table has `4^message_bits` entries, and both ciphertexts have
-/// `glwe_dim * poly_size + 1` words, whichever they are.
+/// `glwe_dim * poly_size + 1` words, whichever they are. Where the input holds a number within the greatest
+/// noise of a set's sums, the output holds its entry within the noise of a bootstrap.
 pub fn bootstrap_into(
     scratch: &mut BootScratch,
     key: &ServerKey,
@@ -24,6 +26,7 @@ pub fn bootstrap_into(
     requires input_size { length input.now ≡ large_dim key.now.params + 1 }
     requires out_size { length out.old ≡ large_dim key.now.params + 1 }
     ensures output { out.new ≡ bootstrapped key.now table.now input.now }
+    ensures looks_up { LooksUp key.now table.now input.now out.new }
     ensures room_stays { scratch.new ≡ key.now.params }
 {
     let p = key.params();

@@ -5,16 +5,20 @@ mod boot_key;
 mod bootstrap;
 mod clear;
 mod hidden;
+mod laws;
 mod marks;
 mod rotation;
 mod rows;
 mod scratch;
 mod server_key;
+mod word_counts;
 
 pub use boot_key::BootKey;
 pub use bootstrap::bootstrap_into;
+pub use laws::{budget_laws, lookup_laws};
 pub use scratch::BootScratch;
 pub use server_key::{ServerKey, server_key_laws};
+pub use word_counts::{boot_words, switch_words};
 
 #[cfg(test)]
 mod tests;

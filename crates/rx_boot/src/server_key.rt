@@ -8,6 +8,7 @@ ghost use Rattle.rx_boot.specs.ServerKeys.{IsServerKey, server_key};
 ghost use Rattle.rx_boot.specs.Laws.{ServerKeyLaws};
 
 use crate::BootKey;
+use crate::word_counts::boot_words;
 use rx_lwe::{SecretKey, SwitchKey};
 use rx_params::Params;
 use rx_torus::Words;
@@ -120,12 +121,3 @@ impl ServerKey {
 pub fn server_key_laws()
     ensures { ServerKeyLaws }
 {}
-
-// How many words the bootstrapping rows of a set have.
-fn boot_words(p: &Params) -> usize
-    requires { Accepts p.now }
-    ensures { result ≡ boot_size p.now }
-{
-    let size = (p.glwe_dim as usize + 1) * p.poly_size as usize;
-    p.lwe_dim as usize * ((p.glwe_dim as usize + 1) * p.pbs_level as usize) * size
-}
