@@ -21,11 +21,11 @@ pub all_map : {P Q : Term → Type 0} (ts : List Term) → ((t : Term) → P t �
 all_map [] f h = tt
 all_map (t ∷ ts) f h = (f t h.0, all_map ts f h.1)
 
-part_low : (w : ℤ) (v d : ℕ) → v ≤ d → (negative_part w *ℤ pos d) ≤ℤ (w *ℤ pos v)
+pub part_low : (w : ℤ) (v d : ℕ) → v ≤ d → (negative_part w *ℤ pos d) ≤ℤ (w *ℤ pos v)
 part_low (pos n) v d h = omega (arith, ints)
 part_low (negsuc n) v d h = omega (arith, ints, mul-le-mul_left (suc n) h)
 
-part_high : (w : ℤ) (v d : ℕ) → v ≤ d → (w *ℤ pos v) ≤ℤ (positive_part w *ℤ pos d)
+pub part_high : (w : ℤ) (v d : ℕ) → v ≤ d → (w *ℤ pos v) ≤ℤ (positive_part w *ℤ pos d)
 part_high (pos n) v d h = omega (arith, ints, mul-le-mul_left n h)
 part_high (negsuc n) v d h = omega (arith, ints)
 
@@ -46,7 +46,7 @@ natural_lt : (a : ℤ) (n : ℕ) → pos 0 ≤ℤ a → a <ℤ pos n → natural
 natural_lt (pos a) n h k = omega (arith, ints)
 natural_lt (negsuc a) n h k = absurd (omega (arith, ints))
 
-natural_is : (a : ℤ) → pos 0 ≤ℤ a → pos (natural a) ≡ a
+pub natural_is : (a : ℤ) → pos 0 ≤ℤ a → pos (natural a) ≡ a
 natural_is (pos a) h = refl
 natural_is (negsuc a) h = absurd (omega (arith, ints))
 

@@ -10,4 +10,7 @@ pub mod Grows
 pub mod WordsOf
 pub mod Evaluates
 pub mod Additions
+pub mod Named
 pub mod NarrowJobs
+pub mod TestNets
+mod Examples

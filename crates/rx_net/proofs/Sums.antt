@@ -1,5 +1,5 @@
 -- Sums over terms.
-use Rattle.std.proofs.Common.{◌≡◌, ℕ, ℤ, pos, neg_ℤ, suc, ◌+◌, ◌*◌, ◌<◌, ◌≤◌, ◌+ℤ◌, ◌*ℤ◌, ◌≤ℤ◌, List, [], ◌∷◌, length, get_or, drop, sym, ◌∙◌, ap, arith, subst, drop-cons, add-one}
+use Rattle.std.proofs.Common.{◌≡◌, ℕ, ℤ, pos, suc, ◌+◌, ◌*◌, ◌^◌, ◌<◌, ◌≤◌, ◌+ℤ◌, ◌*ℤ◌, List, [], ◌∷◌, length, get_or, drop, sym, ◌∙◌, ap, arith, subst, drop-cons, add-one}
 use Rattle.std.proofs.lemmas.Int.{ints}
 use Rattle.std.proofs.lemmas.List.{drop_all}
 use Rattle.std.proofs.lemmas.List.Elements.{All-from_recursion}
@@ -35,33 +35,38 @@ noise_ends noise ts i p = ap (noise_of noise) (drop_all i ts p)
 pub at_place : {A : Type 0} (P : A → Type 0) (xs : List A) (i : ℕ) (x : A) → AllByRecursion P xs → i < length xs → x ≡ get_or xs i x → P x
 at_place P xs i x h p e = subst P (sym e) (All-from_recursion P xs h i x p)
 
--- the sums over the first terms, and their bounds
+-- the sums over the first terms, and their sizes
 pub record IsSummed (degree noise : ℕ → ℕ) (constant : ℤ) (ts : List Term) (i : ℕ) (low high : ℤ) (sum : ℕ) : Type 0 where
   pub low_is : low_of degree low (drop i ts) ≡ low_of degree constant ts
   pub high_is : high_of degree high (drop i ts) ≡ high_of degree constant ts
   pub noise_is : sum + noise_of noise (drop i ts) ≡ noise_of noise ts
-  pub low_least : neg_ℤ (pos (32768 + 32640 * i)) ≤ℤ low
-  pub low_most : low ≤ℤ pos 32767
-  pub high_least : neg_ℤ (pos 32768) ≤ℤ high
-  pub high_most : high ≤ℤ pos (32767 + 32640 * i)
-  pub noise_most : sum ≤ 32640 * i
+  pub low_size : unsigned_abs low ≤ 2 ^ 15 + i * 2 ^ 15
+  pub high_size : unsigned_abs high ≤ 2 ^ 15 + i * 2 ^ 15
+  pub noise_size : sum ≤ i * 2 ^ 15
+
+pub summed_none : (degree noise : ℕ → ℕ) (constant : ℤ) (ts : List Term) (low high : ℤ) (sum : ℕ) → low ≡ constant → high ≡ constant → sum ≡ 0
+    → unsigned_abs low ≤ 2 ^ 15 → unsigned_abs high ≤ 2 ^ 15 → IsSummed degree noise constant ts 0 low high sum
+summed_none degree noise constant ts low high sum x y z low_small high_small = record {
+  low_is = ap (λ k. low_of degree k ts) x;
+  high_is = ap (λ k. high_of degree k ts) y;
+  noise_is = let e : sum + noise_of noise ts ≡ noise_of noise ts = omega (arith, z) in e;
+  low_size = omega arith;
+  high_size = omega arith;
+  noise_size = omega arith;
+}
 
 pub summed_more : (degree noise : ℕ → ℕ) (constant : ℤ) (ts : List Term) (i : ℕ) (low high : ℤ) (sum : ℕ) → IsSummed degree noise constant ts i low high sum
-    → (t : Term) → i < length ts → t ≡ get_or ts i t → (w : ℤ) (d m : ℕ) → w ≡ t.weight → d ≡ degree t.cell → m ≡ noise t.cell → (a b : ℤ) (n : ℕ)
-    → a ≡ negative_part w *ℤ pos d → neg_ℤ (pos 32640) ≤ℤ a → a ≤ℤ pos 0
-    → b ≡ positive_part w *ℤ pos d → pos 0 ≤ℤ b → b ≤ℤ pos 32640
-    → n ≡ unsigned_abs w * m → n ≤ 32640
-    → (low' high' : ℤ) (sum' : ℕ) → low' ≡ low +ℤ a → high' ≡ high +ℤ b → sum' ≡ sum + n
+    → (t : Term) → i < length ts → t ≡ get_or ts i t → (w : ℤ) (d m : ℕ) → w ≡ t.weight → d ≡ degree t.cell → m ≡ noise t.cell
+    → (low' high' : ℤ) (sum' : ℕ) → low' ≡ low +ℤ negative_part w *ℤ pos d → high' ≡ high +ℤ positive_part w *ℤ pos d → sum' ≡ sum + unsigned_abs w * m
+    → unsigned_abs low' ≤ unsigned_abs low + 2 ^ 15 → unsigned_abs high' ≤ unsigned_abs high + 2 ^ 15 → sum' ≤ sum + 2 ^ 15
     → IsSummed degree noise constant ts (i + 1) low' high' sum'
-summed_more degree noise constant ts i low high sum h t p e w d m w_is d_is m_is a b n a_is a_low a_high b_is b_low b_high n_is n_high low' high' sum' x y z = record {
-  low_is = sum_goes_on (λ t. negative_part t.weight *ℤ pos (degree t.cell)) low low' ts i t p e (x ∙ ap (λ a. low +ℤ a) (a_is ∙ ap (λ w. negative_part w *ℤ pos d) w_is ∙ ap (λ d. negative_part t.weight *ℤ pos d) d_is)) ∙ h.low_is;
-  high_is = sum_goes_on (λ t. positive_part t.weight *ℤ pos (degree t.cell)) high high' ts i t p e (y ∙ ap (λ a. high +ℤ a) (b_is ∙ ap (λ w. positive_part w *ℤ pos d) w_is ∙ ap (λ d. positive_part t.weight *ℤ pos d) d_is)) ∙ h.high_is;
+summed_more degree noise constant ts i low high sum h t p e w d m w_is d_is m_is low' high' sum' x y z low_small high_small noise_small = record {
+  low_is = sum_goes_on (λ t. negative_part t.weight *ℤ pos (degree t.cell)) low low' ts i t p e (x ∙ ap (λ w. low +ℤ negative_part w *ℤ pos d) w_is ∙ ap (λ d. low +ℤ negative_part t.weight *ℤ pos d) d_is) ∙ h.low_is;
+  high_is = sum_goes_on (λ t. positive_part t.weight *ℤ pos (degree t.cell)) high high' ts i t p e (y ∙ ap (λ w. high +ℤ positive_part w *ℤ pos d) w_is ∙ ap (λ d. high +ℤ positive_part t.weight *ℤ pos d) d_is) ∙ h.high_is;
   noise_is =
-      let n' : n ≡ unsigned_abs t.weight * noise t.cell = n_is ∙ ap (λ w. unsigned_abs w * m) w_is ∙ ap (λ m. unsigned_abs t.weight * m) m_is in
+      let z' : sum' ≡ sum + unsigned_abs t.weight * noise t.cell = z ∙ ap (λ w. sum + unsigned_abs w * m) w_is ∙ ap (λ m. sum + unsigned_abs t.weight * m) m_is in
       omega (arith, h.noise_is, noise_goes_on noise ts i t p e);
-  low_least = omega (arith, ints, h.low_least);
-  low_most = omega (arith, ints, h.low_most);
-  high_least = omega (arith, ints, h.high_least);
-  high_most = omega (arith, ints, h.high_most);
-  noise_most = omega (arith, h.noise_most);
+  low_size = omega (arith, h.low_size);
+  high_size = omega (arith, h.high_size);
+  noise_size = omega (arith, h.noise_size);
 }

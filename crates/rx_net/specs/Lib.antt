@@ -1,6 +1,7 @@
 pub mod Tags
 pub mod Cells
 pub mod Legal
+pub mod Named
 pub mod Faults
 pub mod Pen
 pub mod Growth

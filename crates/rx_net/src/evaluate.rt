@@ -1,5 +1,5 @@
 // What the cells of a net hold, and how deep they are.
-ghost use Rattle.std.specs.Prelude.{◌≡◌, ◌⊎◌, ℤ, pos, neg_ℤ, ◌*ℤ◌, ◌≤ℤ◌, ◌+◌, ◌<◌, ◌≤◌, length, map, get_or, IfOk};
+ghost use Rattle.std.specs.Prelude.{◌≡◌, pos, ◌≤ℤ◌, ◌<◌, ◌≤◌, length, map, get_or, IfOk};
 ghost use Rattle.std.specs.List.{AllByRecursion};
 ghost use Rattle.rx_net.specs.Tags.{value_of, greatest_of, natural};
 ghost use Rattle.rx_net.specs.Cells.{Within, values_after, net_depth};
@@ -7,7 +7,7 @@ ghost use Rattle.rx_net.specs.Legal.{Legal};
 
 use crate::net::Net;
 use crate::tags::input_cells;
-use crate::term::Term;
+use crate::term::{Term, scaled};
 use std::alloc::{AllocError, Global};
 
 /// The value of each cell of a legal net, for one value of each input cell, within its degree.
@@ -43,14 +43,6 @@ fn weighted_sum(values: &[u8], terms: &[Term], constant: i16) -> i32
         sum += scaled(term.weight, values[term.cell as usize]);
     }
     sum
-}
-
-fn scaled(weight: i8, value: u8) -> i32
-    ensures value { result ≡ weight *ℤ pos value }
-    ensures low { neg_ℤ (pos 32640) ≤ℤ result }
-    ensures high { result ≤ℤ pos 32640 }
-{
-    i32::from(weight) * i32::from(value)
 }
 
 /// The depth of a legal net: the greatest depth of a job, 0 where it has none.

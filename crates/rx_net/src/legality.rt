@@ -6,17 +6,15 @@ ghost use Rattle.rx_params.specs.Derived.{noise_limit};
 ghost use Rattle.rx_net.specs.declared.net.Job.{Job};
 ghost use Rattle.rx_net.specs.Tags.{natural, greatest_between};
 ghost use Rattle.rx_net.specs.Cells.{input_cells, cell_count, degree, degrees_after};
-ghost use Rattle.rx_params.specs.Kinds.{is_form};
 ghost use Rattle.rx_net.specs.Legal.{Legal, InTurn, WithinLimits, is_input, is_output, has_input_tags, names_input, names_output, are_cells, reached as reached_of};
 ghost use Rattle.rx_net.specs.Faults.{Answers, answered, first_failing, first_in_turn, fault_of, limit, limit_fault, input_fault, terms_fault, new_fault, sum_fault, job_fault, output_fault};
 
 use crate::fault::NetFault;
 use crate::net::{Job, Net, NetInput, NetOutput};
-use crate::tags::{
-    SumTags, block_count, greatest, greatest_between, input_cells, sum_tags, tags_at,
-};
+use crate::tag_sums::TagSums;
+use crate::tags::{greatest_between, input_cells, sum_tags, tags_at};
 use crate::term::Term;
-use rx_params::{Kind, Name};
+use rx_params::Name;
 
 pub(crate) const MOST_INPUTS: usize = 64;
 
@@ -108,7 +106,7 @@ pub(crate) fn is_input(space: u32, before: &[NetInput], input: &NetInput) -> boo
     requires { (space ≡ 2) ⊎ (space ≡ 3) }
     ensures { result ≡ is_input space before.now input.now }
 {
-    let has_form = is_form(space, input.kind, input.bits);
+    let has_form = input.kind.is_form(space, input.bits);
     let has_tags = has_input_tags(space, input);
     let is_named = names_input(&input.name, before);
     has_form && has_tags && !is_named
@@ -118,7 +116,7 @@ fn has_input_tags(space: u32, input: &NetInput) -> bool
     requires { (space ≡ 2) ⊎ (space ≡ 3) }
     ensures { result ≡ has_input_tags space input.now }
 {
-    let most = greatest(space, input.kind);
+    let most = input.kind.greatest(space);
     input.degree <= most && 1 <= input.noise && input.noise <= noise_limit(space)
 }
 
@@ -126,17 +124,6 @@ fn names_input(name: &Name, inputs: &[NetInput]) -> bool
     ensures { result ≡ names_input name.now inputs.now }
 {
     inputs.iter().any(|input| input.name == *name)
-}
-
-/// Whether a number of this kind may have so many bits.
-fn is_form(space: u32, kind: Kind, bits: u32) -> bool
-    requires { (space ≡ 2) ⊎ (space ≡ 3) }
-    ensures { result ≡ is_form space kind bits }
-{
-    match kind {
-        Kind::Int => space <= bits && bits <= 64 && bits.is_multiple_of(space),
-        Kind::Bit => bits == 1,
-    }
 }
 
 /// The greatest sum of noise tags that a lookup may be given.
@@ -225,7 +212,7 @@ fn are_earlier(count: u32, terms: &[Term]) -> bool
 }
 
 /// The greatest entry that a sum can reach in a table, or the first fault of the two.
-fn check_sum(space: u32, job: u32, sum: SumTags, table: &[u8]) -> Result<u8, NetFault>
+fn check_sum(space: u32, job: u32, sum: TagSums, table: &[u8]) -> Result<u8, NetFault>
     requires space { (space ≡ 2) ⊎ (space ≡ 3) }
     requires order { sum.low ≤ℤ sum.high }
     ensures fault { Answers result (sum_fault space job sum.low sum.high sum.noise table.now) }
@@ -285,10 +272,10 @@ pub(crate) fn is_output(net: &Net, before: &[NetOutput], output: &NetOutput) -> 
     ensures { result ≡ is_output net.now.space (cell_count net.now) (degree net.now) before.now output.now }
 {
     let cells = output.cells.as_slice();
-    let has_form = is_form(net.space, output.kind, output.bits);
-    let count = block_count(net.space, output.kind, output.bits);
+    let has_form = output.kind.is_form(net.space, output.bits);
+    let count = output.kind.block_count(net.space, output.bits);
     let is_named = names_output(&output.name, before);
-    let have_degrees = are_cells(net, greatest(net.space, output.kind), cells);
+    let have_degrees = are_cells(net, output.kind.greatest(net.space), cells);
     has_form && cells.len() == count as usize && !is_named && have_degrees
 }
 

@@ -8,6 +8,7 @@ mod legality;
 mod lists;
 mod net;
 mod pen;
+mod tag_sums;
 mod tags;
 mod term;
 #[cfg(test)]
@@ -21,6 +22,7 @@ pub use legality::legal;
 pub use lists::{Cells, Jobs, NetInputs, NetOutputs, Table, Terms};
 pub use net::{Job, Net, NetInput, NetOutput};
 pub use pen::{NetPen, PenError};
+pub use tag_sums::TagSums;
 pub use tags::greatest_between;
 pub use term::Term;
 pub use words::JobWords;

@@ -4,6 +4,7 @@ ghost use Rattle.rx_net.specs.declared.net.Job.{Job};
 ghost use Rattle.rx_net.specs.Tags.{natural, greatest_between};
 ghost use Rattle.rx_net.specs.Cells.{cell_count, degree, noise};
 ghost use Rattle.rx_net.specs.Legal.{Legal, JobFits, IsBounded, reached};
+ghost use Rattle.rx_net.specs.Named.{IsNet};
 ghost use Rattle.rx_net.specs.Faults.{Answers, fault_of};
 ghost use Rattle.rx_net.specs.Pen.{Tells, empty_net, with_input, with_job, with_output};
 ghost use Rattle.rx_net.specs.Growth.{AddsJob};
@@ -53,7 +54,8 @@ impl From<NetFault> for PenError {
     }
 }
 
-/// Makes a net, which is legal after each call. Contracts see a pen as its net. After a refusal the pen is as before.
+/// Makes a net, which after each call is legal and has names that are names. Contracts see a pen as its net. After a
+/// refusal the pen is as before.
 #[derive(Drop)]
 pub struct NetPen {
     alloc: Global,
@@ -62,13 +64,13 @@ pub struct NetPen {
 
 impl Model for NetPen {
     ghost use Rattle.rx_net.specs.declared.net.Net.{Net};
-    ghost use Rattle.rx_net.specs.Legal.{Legal};
+    ghost use Rattle.rx_net.specs.Named.{IsNet};
 
     ghost Value = { Net };
 
     ghost view = { λ p. p.net };
 
-    ghost invariant = { λ p. Legal p.net };
+    ghost invariant = { λ p. IsNet p.net };
 }
 
 impl NetPen {
@@ -122,6 +124,7 @@ impl NetPen {
     pub fn finish(self) -> Net
         ensures value { result ≡ self }
         ensures legal { Legal result }
+        ensures named { IsNet result }
     {
         let NetPen { alloc: _, net } = self;
         net
@@ -137,6 +140,8 @@ impl NetPen {
     {
         let cell = cell_count(&self.net);
         check_input(&self.net, &input)?;
+        // The input's name is one by its own contract.
+        input.name.as_bytes();
         self.net.inputs.push(input)?;
         Ok(cell)
     }
@@ -189,6 +194,8 @@ impl NetPen {
             cells,
         };
         check_output(&self.net, &output)?;
+        // The output's name is one by its own contract.
+        output.name.as_bytes();
         self.net.outputs.push(output)?;
         Ok(())
     }

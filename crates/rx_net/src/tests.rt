@@ -1,7 +1,10 @@
 // Nets that are refused, nets that are made, and what they give.
+ghost use Rattle.std.specs.Prelude.{◌≡◌};
+ghost use Rattle.rx_params.specs.declared.kind.Kind.TheVariants.{Int as Number};
+
 use crate::{
-    Cells, Job, Jobs, Net, NetFault, NetInput, NetInputs, NetOutput, NetOutputs, NetPen, PenError,
-    Table, Term, Terms, depth, legal, plain,
+    Job, Jobs, Net, NetFault, NetInput, NetInputs, NetOutputs, NetPen, PenError, Table, Term,
+    Terms, depth, legal, plain,
 };
 use rx_params::{Kind, Name};
 use std::alloc::{AllocError, Global};
@@ -9,7 +12,9 @@ use std::test::Fail;
 
 const IDENTITY: [u8; 16] = [0, 1, 2, 3, 4, 5, 6, 7, 8, 9, 10, 11, 12, 13, 14, 15];
 
-fn number(name: Name) -> NetInput {
+fn number(name: Name) -> NetInput
+    ensures { result ≡ record { name = name; kind = Number; bits = 2; degree = 3; noise = 1 } }
+{
     NetInput {
         name,
         kind: Kind::Int,
@@ -173,5 +178,51 @@ fn an_input_that_is_an_output(rt: HostRuntime) -> Result<(), Fail> {
     assert_eq!(rt; again, Err(refused));
     let net = pen.finish();
     assert_eq!(rt; depth(alloc, &net)?, 0);
+    Ok(())
+}
+
+#[test]
+fn a_number_that_is_given_back(rt: HostRuntime) -> Result<(), Fail> {
+    let alloc = rt.alloc();
+    let Some(a) = Name::of(b"a") else {
+        panic!(rt; "a name");
+    };
+    let mut pen = NetPen::new(alloc, 2);
+    pen.input(number(a))?;
+    pen.output(a, Kind::Int, 2, &[0])?;
+    let net = pen.finish();
+    let values = plain(alloc, &net, &[2])?;
+    assert_eq!(rt; values.as_slice(), &[2][..]);
+    Ok(())
+}
+
+#[test]
+fn a_job_that_is_placed(rt: HostRuntime) -> Result<(), Fail> {
+    let alloc = rt.alloc();
+    let Some(a) = Name::of(b"a") else {
+        panic!(rt; "a name");
+    };
+    let mut pen = NetPen::new(alloc, 2);
+    pen.input(number(a))?;
+    let less = Term {
+        cell: 0,
+        weight: -1,
+    };
+    let cell = pen.place(&[less], 3, &IDENTITY)?;
+    assert_eq!(rt; cell, 1);
+    let net = pen.finish();
+    let values = plain(alloc, &net, &[1])?;
+    assert_eq!(rt; values.as_slice(), &[1, 2][..]);
+    Ok(())
+}
+
+#[test]
+fn a_job_without_terms(rt: HostRuntime) -> Result<(), Fail> {
+    let alloc = rt.alloc();
+    let mut pen = NetPen::new(alloc, 2);
+    let cell = pen.job(&[], 3, &IDENTITY)?;
+    assert_eq!(rt; pen.degree(cell), 3);
+    let net = pen.finish();
+    assert_eq!(rt; depth(alloc, &net)?, 1);
     Ok(())
 }

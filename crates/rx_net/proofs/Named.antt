@@ -1,0 +1,38 @@
+-- Names of a net that grows.
+use Rattle.std.proofs.Common.{◌≡◌, ℕ, ℤ, List, [], ◌∷◌, ◌++◌, sym, subst}
+use Rattle.std.specs.Prelude.{IsTrue}
+use Rattle.std.specs.List.{AllByRecursion}
+use Rattle.rx_text.specs.Names.{is_name}
+use Rattle.rx_net.specs.declared.term.Term.{Term}
+use Rattle.rx_net.specs.declared.net.NetInput.{NetInput}
+use Rattle.rx_net.specs.declared.net.NetOutput.{NetOutput}
+use Rattle.rx_net.specs.declared.net.Net.{Net}
+use Rattle.rx_net.specs.Legal.{Legal}
+use Rattle.rx_net.specs.Named.{IsNet}
+use Rattle.rx_net.specs.Pen.{with_input, with_job, with_output}
+
+all_more : {A : Type 0} (P : A → Type 0) (xs : List A) (x : A) → AllByRecursion P xs → P x → AllByRecursion P (xs ++ x ∷ [])
+all_more P [] x h p = (p, tt)
+all_more P (y ∷ ys) x h p = (h.0, all_more P ys x h.1 p)
+
+pub input_named : (net : Net) (i : NetInput) → IsNet net → IsTrue (is_name i.name) → Legal (with_input net i) → IsNet (with_input net i)
+input_named net i h name legal = record {
+  legal = legal;
+  input_names = all_more (λ (i : NetInput). IsTrue (is_name i.name)) net.inputs i h.input_names name;
+  output_names = h.output_names;
+}
+
+pub job_named : (net : Net) (ts : List Term) (k : ℤ) (table : List ℕ) (new : Net) → IsNet net → new ≡ with_job net ts k table → Legal new → IsNet new
+job_named net ts k table new h e legal =
+    subst (λ (n : Net). IsNet n) (sym e) (record {
+      legal = subst (λ (n : Net). Legal n) e legal;
+      input_names = h.input_names;
+      output_names = h.output_names;
+    })
+
+pub output_named : (net : Net) (o : NetOutput) → IsNet net → IsTrue (is_name o.name) → Legal (with_output net o) → IsNet (with_output net o)
+output_named net o h name legal = record {
+  legal = legal;
+  input_names = h.input_names;
+  output_names = all_more (λ (o : NetOutput). IsTrue (is_name o.name)) net.outputs o h.output_names name;
+}
