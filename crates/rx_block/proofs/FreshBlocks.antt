@@ -1,15 +1,11 @@
 -- The law of fresh blocks.
-use Rattle.std.proofs.Common.{◌≡◌, ℕ, ℤ, pos, ◌-ℤ◌, ◌+◌, ◌-◌, ◌*◌, ◌/◌, ◌^◌, ◌<◌, ◌≤◌, ◌⊎◌, inl, inr, refl, sym, arith, subst, lit<, List, length}
+use Rattle.std.proofs.Common.{◌≡◌, ℕ, pos, ◌-ℤ◌, ◌-◌, ◌*◌, ◌/◌, ◌^◌, ◌<◌, ◌≤◌, ◌⊎◌, inl, inr, sym, arith, subst, lit<, List, length}
 use Rattle.std.proofs.Math.Pow.{pow_mono}
-use Rattle.rx_laws.specs.Torus.{word, distance}
+use Rattle.rx_laws.specs.Torus.{distance}
 use Rattle.rx_laws.specs.Words.{of_words}
-use Rattle.rx_laws.specs.Lwe.{lwe_phase, lwe_hiding}
+use Rattle.rx_laws.specs.Lwe.{lwe_phase}
 use Rattle.rx_laws.specs.Decode.{plaintexts, unit, decoded}
-use Rattle.rx_laws.proofs.Torus.{word-word, word-add, distance-word}
-use Rattle.rx_laws.proofs.Words.{words_below-are}
-use Rattle.rx_laws.proofs.Lwe.{hiding_near}
-use Rattle.rx_laws.proofs.Decode.{decodes}
-use Rattle.rx_torus.specs.Streams.{Draws, draw, stream_of, uniform}
+use Rattle.rx_torus.specs.Streams.{Draws, stream_of}
 use Rattle.rx_torus.specs.Kinds.{stream_number}
 use Rattle.rx_torus.specs.declared.kind.StreamKind.TheVariants.{BlockMask, BlockNoise}
 use Rattle.rx_params.specs.declared.params.Params.{Params}
@@ -19,22 +15,11 @@ use Rattle.rx_params.specs.Acceptance.{FieldsInRange}
 use Rattle.rx_params.specs.Kinds.{greatest}
 use Rattle.rx_params.specs.Derived.{base_of}
 use Rattle.rx_lwe.specs.Lwe.{phase_of, encrypted}
-use Rattle.rx_lwe.proofs.Noises.{uniform-size}
+use Rattle.rx_lwe.proofs.Made.{encrypted-near}
 use Rattle.rx_block.specs.declared.block.Block.{Block}
 use Rattle.rx_block.specs.Fresh.{fresh}
 use Rattle.rx_block.specs.Keeps.{Keeps}
-use lib.IntN.{neg_ℤ}
-
-encrypted-near : (key : List ℕ) (mask noise : Draws) (bound message : ℕ) →
-    distance (lwe_phase (length key) (of_words key) (of_words (encrypted key mask noise bound message)) -ℤ pos message) ≤ 2 ^ bound
-unfolding encrypted
-encrypted-near key mask noise bound message =
-    let d : ℕ = length key in
-    let draws : ℕ → ℤ = λ i. pos (draw mask i) in
-    let noised : ℤ = uniform bound (draw noise 0) in
-    let near = hiding_near d (of_words key) draws (pos message) noised (encrypted key mask noise bound message)
-    (words_below-are (d + 1) (lwe_hiding d (of_words key) draws (pos message) noised)) in
-    omega (arith, near, uniform-size bound (draw noise 0))
+use Rattle.rx_block.proofs.KeptNumbers.{near-decodes}
 
 pub fresh-near : (p : Params) (key mask_seed noise_seed : List ℕ) (number : ℕ) (kind : Kind) (x : ℕ) →
     distance (lwe_phase (length key) (of_words key) (of_words (fresh p key mask_seed noise_seed number kind x).words)
@@ -61,14 +46,11 @@ pub fresh-decodes : (p : Params) (key mask_seed noise_seed : List ℕ) (number :
     decoded p.message_bits (phase_of key (fresh p key mask_seed noise_seed number kind x).words) ≡ x
 fresh-decodes p key mask_seed noise_seed number kind x fields below =
     let m : ℕ = p.message_bits in
-    let hidden : ℤ = pos (unit m * x) in
-    let z : ℤ = lwe_phase (length key) (of_words key) (of_words (fresh p key mask_seed noise_seed number kind x).words) in
-    let same : distance (pos (word z) -ℤ hidden) ≡ distance (z -ℤ hidden) =
-    distance-word (pos (word z) -ℤ hidden) (z -ℤ hidden) (word-add (pos (word z)) z (neg_ℤ hidden) (neg_ℤ hidden) (word-word z) refl) in
     let bound : 2 ^ p.glwe_bound ≤ 2 ^ 40 = pow_mono fields.glwe_bound in
-    decodes m (word z) x fields.message_bits
+    near-decodes p key (fresh p key mask_seed noise_seed number kind x).words x (2 ^ p.glwe_bound) fields
     (omega (arith, below, greatest-below kind m fields.message_bits))
-    (omega (arith, same, bound, fresh-near p key mask_seed noise_seed number kind x, unit-wide m fields.message_bits))
+    (fresh-near p key mask_seed noise_seed number kind x)
+    (omega (arith, bound, unit-wide m fields.message_bits))
 
 base-fresh : (p : Params) → 2 ^ p.glwe_bound ≤ base_of p
 unfolding base_of

@@ -23,13 +23,13 @@ mixed-more n x y part f e h k =
     h ∙ word-add (pos x) (sum_to n f) part (f n) same (ap word k) ∙ ap word (sym (sum_to-suc n f)) ∙ ap (λ m. word (sum_to m f)) (sym s)
 
 -- the constant, in the last place
-abbrev last_only : ℕ → ℤ → ℕ → ℤ
+abbrev pub last_only : ℕ → ℤ → ℕ → ℤ
 last_only n last i = if nat_lt i n then pos 0 else last
 
-last_only-before : (n : ℕ) (last : ℤ) (i : ℕ) → i < n → last_only n last i ≡ pos 0
+pub last_only-before : (n : ℕ) (last : ℤ) (i : ℕ) → i < n → last_only n last i ≡ pos 0
 last_only-before n last i p = rw (lt-ltb i n p)
 
-last_only-at : (n : ℕ) (last : ℤ) (i : ℕ) → n ≤ i → last_only n last i ≡ last
+pub last_only-at : (n : ℕ) (last : ℤ) (i : ℕ) → n ≤ i → last_only n last i ≡ last
 last_only-at n last i p = rw (le-ltb i n p)
 
 mixed-each : (n : ℕ) (xs : List ℕ) (x : ℕ) (f : ℕ → ℤ) (last : ℤ) → length xs ≡ n + 1 →

@@ -73,7 +73,7 @@ pub low-high : (degree : ℕ → ℕ) (constant : ℤ) (ts : List Term) → low_
 low-high degree constant [] = omega (arith, ints)
 low-high degree constant (t ∷ ts) = omega (arith, ints, low-high degree constant ts, parts-apart t.weight (degree t.cell))
 
-not_less : (a b : ℤ) → int_lt a b ≡ false → b ≤ℤ a
+pub not_less : (a b : ℤ) → int_lt a b ≡ false → b ≤ℤ a
 not_less a b e = let P : Bool → Type 0 = λ v. T (not v) in lt_z_no (subst P (sym e) tt)
 
 -- a greatest number that no test refused is a degree

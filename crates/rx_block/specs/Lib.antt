@@ -1,5 +1,8 @@
 pub mod Fresh
-pub mod Keeps
 pub mod Combine
+pub mod Keeps
 pub mod Lookup
+pub mod Outputs
 pub mod Laws
+pub mod Noise
+pub mod NoiseLaws

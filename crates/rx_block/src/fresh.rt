@@ -1,7 +1,7 @@
 // Fresh blocks.
-ghost use Rattle.std.specs.Prelude.{◌≡◌, ◌⊎◌, ◌+◌, ◌≤◌, length, IfOk};
+ghost use Rattle.std.specs.Prelude.{◌≡◌, ◌+◌, ◌≤◌, length, IfOk};
 ghost use Rattle.rx_params.specs.Acceptance.{FieldsInRange};
-ghost use Rattle.rx_params.specs.Kinds.{greatest as greatest_of};
+ghost use Rattle.rx_params.specs.Kinds.{greatest};
 ghost use Rattle.rx_block.specs.Fresh.{fresh};
 
 use crate::{Block, Tags};
@@ -25,7 +25,7 @@ pub fn fresh_words_into(
     words: &mut [u64],
 ) -> Tags
     requires fields { FieldsInRange p.now }
-    requires value { value ≤ greatest_of kind p.now.message_bits }
+    requires value { value ≤ greatest kind p.now.message_bits }
     requires room { length words.old ≡ length key.now + 1 }
     ensures { fresh p.now key.now mask_seed.now noise_seed.now number kind value
         ≡ record { words = words.new; degree = result.degree; noise = result.noise } }
@@ -35,7 +35,7 @@ pub fn fresh_words_into(
     let message = unit(p.message_bits) * u64::from(value);
     encrypt_into(key, &mut mask, &mut noise, p.glwe_bound, message, words);
     Tags {
-        degree: greatest(kind, p.message_bits),
+        degree: kind.greatest(p.message_bits),
         noise: 1,
     }
 }
@@ -52,7 +52,7 @@ pub fn fresh_block(
     value: u8,
 ) -> Result<Block, AllocError>
     requires fields { FieldsInRange p.now }
-    requires value { value ≤ greatest_of kind p.now.message_bits }
+    requires value { value ≤ greatest kind p.now.message_bits }
     ensures block { IfOk result
         (λ block. block ≡ fresh p.now key.now mask_seed.now noise_seed.now number kind value) }
     ensures size { IfOk result (λ block. length block.words ≡ length key.now + 1) }
@@ -66,15 +66,4 @@ pub fn fresh_block(
         degree: tags.degree,
         noise: tags.noise,
     })
-}
-
-// The greatest value of a block without a carry.
-fn greatest(kind: Kind, message_bits: u32) -> u8
-    requires { (message_bits ≡ 2) ⊎ (message_bits ≡ 3) }
-    ensures { result ≡ greatest_of kind message_bits }
-{
-    match kind {
-        Kind::Int => (1 << message_bits) - 1,
-        Kind::Bit => 1,
-    }
 }

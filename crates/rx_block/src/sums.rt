@@ -1,21 +1,22 @@
 // Weighted sums of blocks.
-ghost use Rattle.std.specs.Prelude.{◌≡◌, pos, ◌+ℤ◌, ◌*ℤ◌, ◌+◌, ◌-◌, ◌*◌, ◌^◌, ◌≤◌, ◌⊎◌, Ok, Err, MatchResult, length};
+ghost use Rattle.std.specs.Prelude.{◌≡◌, pos, ◌+ℤ◌, ◌*ℤ◌, ◌+◌, ◌-◌, ◌*◌, ◌^◌, ◌≤◌, ◌⊎◌, Ok, Err, MatchResult, OnOk, length};
 ghost use Rattle.std.specs.Int.RustNames.{unsigned_abs};
 ghost use Rattle.rx_laws.specs.Decode.{plaintexts};
 ghost use Rattle.rx_params.specs.Acceptance.{FieldsInRange};
 ghost use Rattle.rx_params.specs.Derived.{large_dim, noise_limit};
 ghost use Rattle.rx_net.specs.Tags.{negative_part, positive_part, low_of, high_of, noise_of};
 ghost use Rattle.rx_block.specs.Combine.{AreCellsOf, AreBlocksOf, combined, mixed_words, degree_in, noise_in};
+ghost use Rattle.rx_block.specs.Noise.{KeepsSum};
 
 use crate::{Block, TagFault};
 use rx_lwe::{add_scaled, unit};
-use rx_net::Term;
+use rx_net::{TagSums, Term};
 use rx_params::Params;
 
 /// The weighted sum of blocks, with a constant added: a term names its block by the place in `blocks`.
 /// There are at most 16 terms; the blocks and `out` have the words of the set's blocks. The degree of the
 /// sum is the greatest number that it may give, and its noise tag the sum of the tags, each times the size
-/// of its weight. After a refusal `out` is as before.
+/// of its weight: so it keeps the weighted sum of what the blocks keep. After a refusal `out` is as before.
 pub fn combine(
     p: &Params,
     blocks: &[Block],
@@ -32,6 +33,7 @@ pub fn combine(
         (λ _. combined p.now blocks.now terms.now constant ≡ Ok out.new)
         (λ fault. (combined p.now blocks.now terms.now constant ≡ Err fault) × (out.new ≡ out.old)) }
     ensures size { length out.new.words ≡ length out.old.words }
+    ensures keeps { OnOk result (KeepsSum p.now blocks.now terms.now constant out.new) }
 {
     let TagSums { low, high, noise } = tag_sums(blocks, terms, constant);
     if low < 0 || high > greatest_number(p.message_bits) {
@@ -82,16 +84,7 @@ pub fn mix_into(p: &Params, blocks: &[Block], terms: &[Term], constant: i16, out
     out[body] = out[body].wrapping_add(message);
 }
 
-// What the tags of blocks say of their weighted sum: the least and the greatest number that it may give,
-// and its noise.
-#[derive(Clone, Copy)]
-struct TagSums {
-    low: i32,
-    high: i32,
-    noise: u32,
-}
-
-// The sums over some terms.
+// What the tags of blocks say of a weighted sum of them.
 fn tag_sums(blocks: &[Block], terms: &[Term], constant: i16) -> TagSums
     requires few { length terms.now ≤ 16 }
     requires cells { AreCellsOf blocks.now terms.now }
@@ -99,53 +92,10 @@ fn tag_sums(blocks: &[Block], terms: &[Term], constant: i16) -> TagSums
     ensures high { result.high ≡ high_of (degree_in blocks.now) constant terms.now }
     ensures noise { result.noise ≡ noise_of (noise_in blocks.now) terms.now }
 {
-    let mut sums = TagSums {
-        low: i32::from(constant),
-        high: i32::from(constant),
-        noise: 0,
-    };
+    let mut sums = TagSums::of_constant(constant);
     for term in terms {
         let block = &blocks[term.cell as usize];
         sums = sums.with(term.weight, block.degree, block.noise);
     }
     sums
-}
-
-impl TagSums {
-    // The sums with one block more.
-    fn with(self, weight: i8, degree: u8, noise: u8) -> TagSums
-        requires low { unsigned_abs self.low ≤ 2 ^ 20 }
-        requires high { unsigned_abs self.high ≤ 2 ^ 20 }
-        requires noise { self.noise ≤ 2 ^ 20 }
-        ensures low { result.low ≡ self.low +ℤ negative_part weight *ℤ pos degree }
-        ensures high { result.high ≡ self.high +ℤ positive_part weight *ℤ pos degree }
-        ensures noise { result.noise ≡ self.noise + unsigned_abs weight * noise }
-        ensures low_size { unsigned_abs result.low ≤ unsigned_abs self.low + 2 ^ 15 }
-        ensures high_size { unsigned_abs result.high ≤ unsigned_abs self.high + 2 ^ 15 }
-        ensures noise_size { result.noise ≤ self.noise + 2 ^ 15 }
-    {
-        let reach = times(weight, degree);
-        let noise = self.noise + times(weight, noise).unsigned_abs();
-        if weight < 0 {
-            TagSums {
-                low: self.low + reach,
-                noise,
-                ..self
-            }
-        } else {
-            TagSums {
-                high: self.high + reach,
-                noise,
-                ..self
-            }
-        }
-    }
-}
-
-// A weight times a tag.
-fn times(weight: i8, tag: u8) -> i32
-    ensures value { result ≡ weight *ℤ pos tag }
-    ensures size { unsigned_abs result ≤ 2 ^ 15 }
-{
-    i32::from(weight) * i32::from(tag)
 }

@@ -3,6 +3,7 @@ ghost use Rattle.std.specs.Prelude.{◌≡◌, ◌+◌, ◌<◌, length};
 ghost use Rattle.rx_laws.specs.Decode.{plaintexts};
 ghost use Rattle.rx_params.specs.Derived.{large_dim};
 ghost use Rattle.rx_block.specs.Lookup.{looked_up};
+ghost use Rattle.rx_block.specs.Noise.{KeepsEntry};
 
 use crate::Block;
 use rx_boot::{BootScratch, ServerKey, bootstrap_into};
@@ -25,6 +26,7 @@ pub fn lookup(
     ensures block { out.new ≡ looked_up key.now table.now block.now }
     ensures size { length out.new.words ≡ length out.old.words }
     ensures room { scratch.new ≡ key.now.params }
+    ensures keeps { KeepsEntry key.now table.now block.now out.new }
 {
     let words = block.words.as_slice();
     bootstrap_into(scratch, key, table, words, out.words.as_mut_slice());

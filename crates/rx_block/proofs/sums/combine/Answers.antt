@@ -5,6 +5,7 @@ use Rattle.rx_torus.proofs.Overwritten.{overwritten-all}
 use Rattle.rx_net.specs.declared.term.Term.{Term}
 use Rattle.rx_net.specs.Tags.{low_of, high_of, noise_of}
 use Rattle.rx_block.specs.Combine.{mixed_words, degree_in, noise_in}
+use Rattle.rx_block.proofs.KeptSums.{kept-sum}
 use Rattle.rx_block.proofs.Tagged.{low-high, degree-fits, refused-low, refused-high, combined-ok}
 use mir.Syntax.{w16, w32}
 use mir.Val.{SFits}
@@ -88,3 +89,7 @@ returns-clause-size c =
     let size : length c.mix_into.new.out ≡ length c.args.out.now.words =
     omega (arith, c.mix_into.auto.out, ap length c.as_mut_slice.ensures.value) in
     ap length (overwritten-all c.args.out.now.words c.mix_into.new.out size) ∙ size
+
+pub returns-clause-keeps : goal.returns-clause-keeps
+returns-clause-keeps c =
+    kept-sum c.args.p.now c.args.blocks.now c.args.terms.now c.args.constant _ (returns-clause-exact c)
