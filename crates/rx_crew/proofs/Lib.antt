@@ -4,3 +4,8 @@ pub mod Laying
 pub mod Placed
 pub mod OutputCells
 pub mod CellTags
+pub mod TermBounds
+pub mod KeptCells
+pub mod KeptJob
+pub mod Keeping
+mod Examples

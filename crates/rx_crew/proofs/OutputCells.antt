@@ -8,7 +8,7 @@ use Rattle.rx_net.specs.declared.net.Net.{Net}
 use Rattle.rx_net.specs.Cells.{input_cells, cell_count, degree}
 use Rattle.rx_net.specs.Legal.{InTurn, Legal, is_output, names_output, are_cells}
 use Rattle.rx_net.proofs.Faults.{and_both, all_from_test}
-use Rattle.rx_crew.specs.Evaluation.{numbers_of}
+use Rattle.rx_block.specs.Outputs.{numbers_of}
 
 all-append : (n : ℕ) (xs ys : List ℕ) → AllByRecursion (λ c. c < n) xs → AllByRecursion (λ c. c < n) ys → AllByRecursion (λ c. c < n) (xs ++ ys)
 all-append n [] ys h k = k

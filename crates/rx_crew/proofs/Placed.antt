@@ -8,7 +8,8 @@ use Rattle.rx_params.specs.declared.params.Params.{Params}
 use Rattle.rx_params.specs.Derived.{large_dim}
 use Rattle.rx_block.specs.declared.block.Block.{Block}
 use Rattle.rx_block.specs.Combine.{no_block, AreBlocksOf}
-use Rattle.rx_crew.specs.Evaluation.{zero_block, blocks_at, AreWordsOf}
+use Rattle.rx_block.specs.Outputs.{blocks_at}
+use Rattle.rx_crew.specs.Evaluation.{zero_block, AreWordsOf}
 use Rattle.rx_net.proofs.Laid.{get_or_end}
 
 pub are-set : (p : Params) (xs : List Block) (i : ℕ) (b : Block) → AreBlocksOf p xs → length b.words ≡ large_dim p + 1 → AreBlocksOf p (set xs i b)

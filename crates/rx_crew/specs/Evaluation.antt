@@ -1,10 +1,8 @@
 -- The evaluation of a net under a server key.
 use Rattle.std.specs.Prelude.{ℕ, ◌+◌, ◌*◌, ◌^◌, ◌≡◌, ◌<◌, ◌≤◌, List, [], ◌∷◌, ◌++◌, length, map, get_or, drop, replicate, EachIndex, slice_index}
-use Rattle.std.specs.List.{flat_map}
 use Rattle.rx_params.specs.declared.params.Params.{Params}
 use Rattle.rx_params.specs.Derived.{large_dim}
 use Rattle.rx_net.specs.declared.net.Job.{Job}
-use Rattle.rx_net.specs.declared.net.NetOutput.{NetOutput}
 use Rattle.rx_net.specs.declared.net.Net.{Net}
 use Rattle.rx_net.specs.Cells.{input_cells, cells_of, operand_words, degree, noise}
 use Rattle.rx_boot.specs.ServerKeys.{ServerWords}
@@ -37,18 +35,6 @@ job_block key job cells = record {
 -- a block of the set, before anything is written
 abbrev pub zero_block : Params → Block
 zero_block p = record { words = replicate (large_dim p + 1) 0; degree = 0; noise = 0 }
-
--- the blocks of these numbers
-abbrev pub blocks_at : List Block → List ℕ → List Block
-blocks_at cells numbers = map (λ c. get_or cells c no_block) numbers
-
--- the cells of all outputs, one output after another
-abbrev pub numbers_of : List NetOutput → List ℕ
-numbers_of outputs = flat_map (λ (o : NetOutput). o.cells) outputs
-
--- the blocks of all outputs, one after another
-abbrev pub output_blocks : List Block → List NetOutput → List Block
-output_blocks cells outputs = blocks_at cells (numbers_of outputs)
 
 -- one block for each input cell, of the set's size and within the tags that the net declares
 pub record AreInputs (p : Params) (net : Net) (inputs : List Block) : Type 0 where

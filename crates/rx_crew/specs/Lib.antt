@@ -1,3 +1,4 @@
 pub mod Kernel
 pub mod Evaluation
+pub mod Noise
 pub mod Laws

@@ -3,7 +3,8 @@ ghost use Rattle.std.specs.Prelude.{◌≡◌, ◌≤◌, ◌<◌, ◌^◌, IfOk
 ghost use Rattle.std.specs.List.{AllByRecursion};
 ghost use Rattle.rx_params.specs.Acceptance.{FieldsInRange};
 ghost use Rattle.rx_block.specs.Combine.{AreBlocksOf};
-ghost use Rattle.rx_crew.specs.Evaluation.{zero_block, blocks_at, AreWordsOf};
+ghost use Rattle.rx_block.specs.Outputs.{blocks_at};
+ghost use Rattle.rx_crew.specs.Evaluation.{zero_block, AreWordsOf};
 
 use rx_block::Block;
 use rx_params::Params;

@@ -10,5 +10,5 @@ mod run;
 
 pub use gate::{Gate, OpenGate};
 pub use kernel::FheKernel;
-pub use laws::evaluation_laws;
+pub use laws::{evaluation_laws, keeping_laws};
 pub use run::{RunReport, run_net};

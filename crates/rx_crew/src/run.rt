@@ -3,10 +3,13 @@ ghost use Rattle.std.specs.Prelude.{◌≡◌, ◌+◌, ◌≤◌, IfOk, length}
 ghost use Rattle.rx_params.specs.Derived.{large_dim};
 ghost use Rattle.rx_net.specs.Legal.{Legal};
 ghost use Rattle.rx_block.specs.Combine.{AreBlocksOf};
-ghost use Rattle.rx_crew.specs.Evaluation.{evaluated, numbers_of, output_blocks, AreInputs, AreWordsOf, board_words, board_limit};
+ghost use Rattle.rx_block.specs.Outputs.{numbers_of, output_blocks};
+ghost use Rattle.rx_crew.specs.Evaluation.{evaluated, AreInputs, AreWordsOf, board_words, board_limit};
+ghost use Rattle.rx_crew.specs.Noise.{KeepsCells, KeepsOutputs};
 
 use crate::Gate;
 use crate::blocks::{copy_blocks, copy_numbered, zero_blocks};
+use crate::laws::cells_keep;
 use crate::order::run_jobs;
 use rx_block::Block;
 use rx_boot::{BootScratch, ServerKey};
@@ -25,8 +28,9 @@ pub struct RunReport {
     pub finished: u32,
 }
 
-/// Evaluates a legal net of the key's message bits over one block for each input cell. All memory is taken
-/// before the first bootstrap. So far the caller runs all jobs in order: no thread is started, whatever
+/// Evaluates a legal net of the key's message bits over one block for each input cell. Where the inputs keep
+/// numbers, each cell keeps the value that the net gives it for them, and so does each output. All memory is
+/// taken before the first bootstrap. So far the caller runs all jobs in order: no thread is started, whatever
 /// the number of workers is, the gate is not called, and `ran` is 0.
 pub fn run_net<R: Threads + Sync, G: Gate + Sync>(
     _rt: &R,
@@ -47,7 +51,10 @@ pub fn run_net<R: Threads + Sync, G: Gate + Sync>(
     ensures sizes { IfOk result (λ report. AreBlocksOf key.now.params report.outputs.items) }
     ensures words { IfOk result (λ report. AreWordsOf report.outputs.items) }
     ensures counted { IfOk result (λ report. report.ran + report.finished ≡ length net.now.jobs) }
+    ensures cells_keep { KeepsCells key.now net.now inputs.now }
+    ensures outputs_keep { IfOk result (λ report. KeepsOutputs key.now net.now inputs.now report.outputs.items) }
 {
+    cells_keep(key, net, inputs);
     let p = key.params();
     let jobs = net.jobs.as_slice().len();
     let size = p.glwe_dim as usize * p.poly_size as usize + 1;

@@ -1,6 +1,7 @@
 use Rattle.std.proofs.Common.{◌≡◌, take}
 use Rattle.rx_block.specs.Combine.{AreBlocksOf}
-use Rattle.rx_crew.specs.Evaluation.{blocks_at, AreWordsOf}
+use Rattle.rx_block.specs.Outputs.{blocks_at}
+use Rattle.rx_crew.specs.Evaluation.{AreWordsOf}
 use Rattle.rx_crew.proofs.blocks.copy_numbered.Given as goal
 
 abbrev pub invariant-loop-place : goal.invariant-loop-place

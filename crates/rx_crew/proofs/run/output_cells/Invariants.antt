@@ -1,5 +1,5 @@
 use Rattle.std.proofs.Common.{◌≡◌, take}
-use Rattle.rx_crew.specs.Evaluation.{numbers_of}
+use Rattle.rx_block.specs.Outputs.{numbers_of}
 use Rattle.rx_crew.proofs.run.output_cells.Given as goal
 
 abbrev pub invariant-loop-output : goal.invariant-loop-output

@@ -3,6 +3,7 @@ use Rattle.rx_params.specs.declared.params.Params.{Params}
 use Rattle.rx_params.specs.Derived.{large_dim}
 use Rattle.rx_block.specs.Combine.{AreBlocksOf}
 use Rattle.rx_crew.specs.Evaluation.{AreWordsOf}
+use Rattle.rx_crew.proofs.Keeping.{outputs-keep}
 use Rattle.rx_crew.proofs.Placed.{sum_size, zeros-are, all-written}
 use Rattle.rx_crew.proofs.run.run_net.Goals as goal
 
@@ -32,3 +33,9 @@ returns-clause-words g c =
     subst AreWordsOf
     (sym (all-written c.in_ok-outputs.outputs.items c.evaluate.new.outputs _ (c.evaluate.auto.outputs ∙ c.deref_mut-3.ensures.len)))
     c.evaluate.ensures.words
+
+pub returns-clause-outputs_keep : goal.returns-clause-outputs_keep
+returns-clause-outputs_keep g c =
+    outputs-keep c.args.key.now c.args.net.now c.args.inputs.now _ c.requires.legal c.requires.inputs c.cells_keep.ensures
+    (all-written c.in_ok-outputs.outputs.items c.evaluate.new.outputs _ (c.evaluate.auto.outputs ∙ c.deref_mut-3.ensures.len)
+    ∙ c.evaluate.ensures.outputs)
