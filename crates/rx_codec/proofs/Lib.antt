@@ -13,3 +13,4 @@ pub mod Manys
 pub mod NetFields
 pub mod Nets
 mod Examples
+mod ExamplesFiles

@@ -16,12 +16,13 @@ use Rattle.rx_net.specs.declared.net.Net.{Net}
 use Rattle.rx_net.specs.declared.fault.NetFault.{NetFault}
 use Rattle.rx_net.specs.Legal.{InTurn, IsJob, has_input_tags, names_input, names_output, are_cells, is_input, is_output, Legal}
 use Rattle.rx_net.specs.Cells.{cell_count, degree}
+use Rattle.rx_net.specs.Named.{IsNet}
 use Rattle.rx_net.specs.Faults.{fault_of}
 use Rattle.rx_net.specs.Narrow.{IsNarrow}
 use Rattle.rx_net.specs.Laws.{NetLaws}
 use Rattle.rx_codec.specs.declared.fault.CodecFault.{CodecFault}
 use Rattle.rx_codec.specs.Reading.{◌>>=◌, Gives, number_at, in_range, list_bytes, list_at, magic_at, ends_at}
-use Rattle.rx_codec.specs.NetFile.{input_bytes, job_bytes, output_bytes, lists_bytes, net_bytes, IsNet, NetFile, input_at, job_at, output_at, space_at, lists_at, spelled_from, legal_or, net_from}
+use Rattle.rx_codec.specs.NetFile.{input_bytes, job_bytes, output_bytes, lists_bytes, net_bytes, NetFile, input_at, job_at, output_at, space_at, lists_at, spelled_from, legal_or, net_from}
 use Rattle.rx_codec.proofs.Fields.{IsBytes, Stands, Stands-then, Stands-first, Stands-second, Stands-whole, whole-Stands, bind_ok, ok_is, both, wide8, wide16, wide32, number_takes, number_again, in_range_takes, magic_takes, magic_again, ends_takes, ends_again}
 use Rattle.rx_codec.proofs.Accepted.{bits_true, two_or_three}
 use Rattle.rx_codec.proofs.NamesAndForms.{not_false, name_size, form_bits}

@@ -1,5 +1,5 @@
 -- The server file: what is read is spelled so, and what is spelled so is read.
-use Rattle.std.proofs.Common.{append_assoc, ◌≡◌, ℕ, ◌+◌, ◌-◌, ◌*◌, ◌^◌, ◌<◌, ◌≤◌, List, ◌++◌, length, get_or, take, drop, Result, Ok, Err, refl, sym, ap, subst, ◌∙◌, arith, inl, inr}
+use Rattle.std.proofs.Common.{append_assoc, ◌≡◌, ℕ, ◌+◌, ◌-◌, ◌*◌, ◌<◌, List, ◌++◌, length, get_or, take, drop, Result, Ok, Err, refl, sym, ap, subst, ◌∙◌, arith, inl, inr}
 use Rattle.std.specs.Prelude.{IfOk, codes, slice_range}
 use Rattle.std.specs.Int.{w64, to_le_bytes, from_le_bytes}
 use Rattle.std.proofs.lemmas.List.Concat.{flat_map-append}
@@ -8,11 +8,11 @@ use Rattle.std.proofs.lemmas.Bool.{cases_lt}
 use Rattle.std.proofs.lemmas.List.FromFn.{length-map-range_with_len, get_or-map-range_with_len, fill_by_all}
 use Rattle.rx_params.specs.declared.params.Params.{Params}
 use Rattle.rx_params.specs.Acceptance.{Accepts}
-use Rattle.rx_params.specs.Derived.{key_words, large_dim}
-use Rattle.rx_params.proofs.Sizes.{square}
+use Rattle.rx_params.specs.Derived.{key_words}
 use Rattle.rx_lwe.specs.SwitchKeys.{SwitchRows, IsSized, switch_key, switch_size}
 use Rattle.rx_boot.specs.BootKeys.{boot_size}
 use Rattle.rx_boot.specs.ServerKeys.{ServerWords}
+use Rattle.rx_boot.proofs.MadeKeys.{all_words}
 use Rattle.rx_codec.specs.declared.fault.CodecFault.{CodecFault}
 use Rattle.rx_codec.specs.Reading.{◌>>=◌, Gives, magic_at, ends_at}
 use Rattle.rx_codec.specs.ParamsFields.{params_bytes, params_at}
@@ -24,19 +24,6 @@ use Rattle.rx_codec.proofs.Params.{params_takes, params_again}
 use Rattle.rx_codec.proofs.Words.{words_takes, words_again}
 
 -- ---- counts
-
-pub key_words-split : (p : Params) → key_words p ≡ boot_size p + switch_size p
-unfolding key_words large_dim
-key_words-split p =
-    let k : ℕ = p.glwe_dim + 1 in
-    let square : k ^ 2 ≡ k * k = square k in
-    ap (λ x. p.lwe_dim * x * p.pbs_level * p.poly_size + p.glwe_dim * p.poly_size * p.ks_level * (p.lwe_dim + 1)) square ∙ omega arith
-
-pub boot_size-few : (p : Params) → Accepts p → boot_size p ≤ 2 ^ 24
-boot_size-few p h = omega (arith, key_words-split p, h.key)
-
-pub switch_size-few : (p : Params) → Accepts p → switch_size p ≤ 2 ^ 24
-switch_size-few p h = omega (arith, key_words-split p, h.key)
 
 -- the words of the switch key of a set
 pub switch_count-is : (p : Params) (s : SwitchRows) (words : List ℕ) → s ≡ switch_key p words → IsSized s → length s.words ≡ switch_size p
@@ -101,7 +88,7 @@ pub key_of-bytes : (p : Params) (bytes front back boot switch : List ℕ) (m n :
     front ≡ take (8 * m) bytes → back ≡ drop (8 * m) bytes → boot ≡ words_in m front → switch ≡ words_in n back →
     k ≡ record { params = p; boot = boot; switch = switch } → k ≡ key_of p (words_in (key_words p) bytes)
 key_of-bytes p bytes front back boot switch m n k em en ef eb eboot eswitch ek =
-    let count : key_words p ≡ m + n = omega (arith, key_words-split p) in
+    let count : key_words p ≡ m + n = omega (arith, all_words p) in
     let first : boot ≡ take m (words_in (m + n) bytes) = eboot ∙ ap (words_in m) ef ∙ sym (words_in-take m n bytes) in
     let second : switch ≡ drop m (words_in (m + n) bytes) = eswitch ∙ ap (words_in n) eb ∙ sym (words_in-drop m n bytes) in
     let words : words_in (m + n) bytes ≡ words_in (key_words p) bytes = ap (λ (j : ℕ). words_in j bytes) (sym count) in
@@ -158,7 +145,7 @@ server_takes file k fits e =
     let e01 = Stands-then file 0 (codes "RXS1") magic.0 (params_bytes p) params.0.1 t0 t1.there in
     let e02 = Stands-then file 0 (codes "RXS1" ++ params_bytes p) params.0.1 (word_bytes words.0.0) words.0.1 e01 t2.0 in
     let all : List ℕ = words.0.0 in
-    let split = key_words-split p in
+    let split = all_words p in
     subst (TakenServer file) end.1 (record {
       fits = record {
         accepted = checked_accepts p t1.bounds t1.checks;
@@ -191,7 +178,7 @@ server_again file k h =
     let words = Stands-second file 0 (codes "RXS1" ++ head) (word_bytes all) (length file) whole in
     let magic = Stands-first file 0 (codes "RXS1") head (0 + length (codes "RXS1" ++ head)) front in
     let params = Stands-second file 0 (codes "RXS1") head (0 + length (codes "RXS1" ++ head)) front in
-    let count : length all ≡ key_words p = omega (arith, length-append k.boot k.switch, h.fits.boot_count, h.fits.switch_count, key_words-split p) in
+    let count : length all ≡ key_words p = omega (arith, length-append k.boot k.switch, h.fits.boot_count, h.fits.switch_count, all_words p) in
     let parts : key_of p all ≡ k = key_of-parts p k.boot k.switch h.fits.boot_count in
     ap (λ (r : Result ℕ CodecFault). r >>= λ after. params_at file after >>= λ params. words_at (key_words params.0) file params.1 >>= λ words. ends_at file words.1 (key_of params.0 words.0))
     (magic_again (codes "RXS1") file _ refl magic)

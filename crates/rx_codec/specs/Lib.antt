@@ -5,5 +5,6 @@ pub mod ClientFile
 pub mod ServerFile
 pub mod NamedFields
 pub mod CipherFile
+pub mod Kept
 pub mod NetFile
 pub mod Laws

@@ -2,11 +2,10 @@
 -- An input is a name, a form, a degree and a noise tag. A job is its terms after their number, a constant, one entry of a
 -- table for each number of a block, and a degree. A term is a cell and a weight. An output is a name, a form and a cell for each
 -- of its blocks. Whole numbers are little-endian, and negative ones are counted from the top.
-use Rattle.std.specs.Prelude.{ℕ, ◌^◌, ◌≡◌, nat_le, ◌&&◌, ◌||◌, ◌==◌, List, [], ◌∷◌, ◌++◌, length, codes, IsTrue, Result, Ok, Err, Option, Some, None}
-use Rattle.std.specs.List.{flat_map, AllByRecursion}
+use Rattle.std.specs.Prelude.{ℕ, ◌^◌, ◌≡◌, nat_le, ◌&&◌, ◌||◌, ◌==◌, List, [], ◌∷◌, ◌++◌, length, codes, Result, Ok, Err, Option, Some, None}
+use Rattle.std.specs.List.{flat_map}
 use Rattle.std.specs.Int.{w8, w16, w32, to_le_bytes}
 use Rattle.rx_laws.specs.Decode.{plaintexts}
-use Rattle.rx_text.specs.Names.{is_name}
 use Rattle.rx_params.specs.Derived.{noise_limit}
 use Rattle.rx_params.specs.Kinds.{greatest, block_count}
 use Rattle.rx_net.specs.declared.term.Term.{Term}
@@ -15,7 +14,8 @@ use Rattle.rx_net.specs.declared.net.NetInput.{NetInput}
 use Rattle.rx_net.specs.declared.net.NetOutput.{NetOutput}
 use Rattle.rx_net.specs.declared.net.Net.{Net}
 use Rattle.rx_net.specs.declared.fault.NetFault.{NetFault}
-use Rattle.rx_net.specs.Legal.{Legal, names_input, names_output}
+use Rattle.rx_net.specs.Legal.{names_input, names_output}
+use Rattle.rx_net.specs.Named.{IsNet}
 use Rattle.rx_net.specs.Faults.{fault_of}
 use Rattle.rx_codec.specs.declared.fault.CodecFault.{CodecFault}
 use Rattle.rx_codec.specs.declared.fault.CodecFault.TheVariants.{Net as NotLegal}
@@ -42,12 +42,6 @@ lists_bytes n = list_bytes w16 input_bytes n.inputs ++ list_bytes w32 job_bytes 
 
 abbrev pub net_bytes : Net → List ℕ
 net_bytes n = (codes "RXN1" ++ n.space ∷ []) ++ lists_bytes n
-
--- what has a spelling
-pub record IsNet (n : Net) : Type 0 where
-  pub legal : Legal n
-  pub input_names : AllByRecursion (λ (i : NetInput). IsTrue (is_name i.name)) n.inputs
-  pub output_names : AllByRecursion (λ (o : NetOutput). IsTrue (is_name o.name)) n.outputs
 
 -- the bytes are the net file of the net
 pub record NetFile (bytes : List ℕ) (n : Net) : Type 0 where

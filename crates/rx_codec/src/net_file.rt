@@ -1,8 +1,9 @@
 // The net file.
 ghost use Rattle.std.specs.Prelude.{◌≡◌, IfOk, Ok};
 ghost use Rattle.rx_net.specs.declared.net.Net.{Net};
+ghost use Rattle.rx_net.specs.Named.{IsNet};
 ghost use Rattle.rx_codec.specs.Reading.{Gives};
-ghost use Rattle.rx_codec.specs.NetFile.{NetFile, IsNet, net_bytes, net_from};
+ghost use Rattle.rx_codec.specs.NetFile.{NetFile, net_bytes, net_from};
 
 use crate::CodecFault;
 use crate::net_reading::read_spelled;

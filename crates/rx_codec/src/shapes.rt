@@ -2,9 +2,8 @@
 ghost use Rattle.std.specs.Prelude.{◌≡◌, ◌+◌, ◌^◌, ◌≤◌};
 ghost use Rattle.rx_params.specs.Acceptance.{Accepts};
 ghost use Rattle.rx_params.specs.Derived.{large_dim, noise_limit, key_words};
-ghost use Rattle.rx_lwe.specs.SwitchKeys.{switch_size};
-ghost use Rattle.rx_boot.specs.BootKeys.{boot_size};
 
+use rx_boot::{boot_words, switch_words};
 use rx_params::Params;
 
 /// The words of a block: its mask and its body.
@@ -15,27 +14,6 @@ pub fn block_words(params: &Params) -> usize
     ensures few { result ≤ 16385 }
 {
     params.glwe_dim as usize * params.poly_size as usize + 1
-}
-
-/// The words of the bootstrapping rows of a server key.
-pub fn boot_words(params: &Params) -> usize
-    requires { Accepts params.now }
-    ensures value { result ≡ boot_size params.now }
-    ensures few { result ≤ 2 ^ 24 }
-{
-    let size = (params.glwe_dim as usize + 1) * params.poly_size as usize;
-    params.lwe_dim as usize * ((params.glwe_dim as usize + 1) * params.pbs_level as usize * size)
-}
-
-/// The words of the switch rows of a server key.
-#[tactic(auto, unfolding(rx_params::specs::Derived::large_dim))]
-pub fn switch_words(params: &Params) -> usize
-    requires { Accepts params.now }
-    ensures value { result ≡ switch_size params.now }
-    ensures few { result ≤ 2 ^ 24 }
-{
-    let rows = params.glwe_dim as usize * params.poly_size as usize * params.ks_level as usize;
-    rows * (params.lwe_dim as usize + 1)
 }
 
 /// The words of a server key.

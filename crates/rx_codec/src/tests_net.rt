@@ -1,6 +1,7 @@
 // Net files, byte by byte.
 use crate::{CodecFault, decode_net, encode_net};
-use rx_net::NetFault;
+use rx_net::{NetFault, NetInput, NetPen};
+use rx_params::{Kind, Name};
 use std::alloc::{AllocError, Global};
 use std::test::Fail;
 
@@ -39,6 +40,32 @@ fn nets_read_and_written(rt: HostRuntime) -> Result<(), Fail> {
         }
     }
     assert_eq!(rt; encode_net(rt.alloc(), &net)?.as_slice(), &LESS[..]);
+    Ok(())
+}
+
+#[test]
+fn a_net_of_a_pen(rt: HostRuntime) -> Result<(), Fail> {
+    let alloc = rt.alloc();
+    let Some(a) = Name::of(b"a") else {
+        panic!(rt; "a name");
+    };
+    let mut pen = NetPen::new(alloc, 2);
+    pen.input(NetInput {
+        name: a,
+        kind: Kind::Int,
+        bits: 2,
+        degree: 3,
+        noise: 1,
+    })?;
+    pen.output(a, Kind::Int, 2, &[0])?;
+    let net = pen.finish();
+    let file = encode_net(alloc, &net)?;
+    assert_eq!(rt; file.as_slice(), &SAME[..]);
+    let again = decode_net(alloc, file.as_slice())?;
+    assert_eq!(rt;
+        format!(in alloc; "{again:?}")?,
+        format!(in alloc; "{net:?}")?
+    );
     Ok(())
 }
 

@@ -6,7 +6,8 @@ use Rattle.rx_lwe.specs.SwitchKeys.{SwitchRows, IsSized, switch_key, switch_size
 use Rattle.rx_boot.specs.BootKeys.{boot_size}
 use Rattle.rx_codec.specs.ParamsFields.{params_bytes}
 use Rattle.rx_codec.specs.WordFields.{word_bytes}
-use Rattle.rx_codec.proofs.Servers.{boot_size-few, switch_size-few, switch_count-is, server_file}
+use Rattle.rx_boot.proofs.MadeKeys.{boot_size-few, switch_size-few}
+use Rattle.rx_codec.proofs.Servers.{switch_count-is, server_file}
 use Rattle.rx_codec.proofs.server.encode_server.Goals as goal
 
 boot_count : (p q : Params) (xs ys : List ℕ) → xs ≡ ys → length ys ≡ boot_size q → p ≡ q → length xs ≡ boot_size p

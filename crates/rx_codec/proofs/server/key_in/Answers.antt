@@ -1,12 +1,13 @@
 use Rattle.std.proofs.Common.{◌∙◌, arith}
-use Rattle.rx_codec.proofs.Servers.{key_words-split, words_in-count, key_of-bytes}
+use Rattle.rx_boot.proofs.MadeKeys.{all_words}
+use Rattle.rx_codec.proofs.Servers.{words_in-count, key_of-bytes}
 use Rattle.rx_codec.proofs.server.key_in.Goals as goal
 
 pub split_at-requires : goal.split_at-requires
-split_at-requires c = omega (arith, key_words-split c.args.p.now)
+split_at-requires c = omega (arith, all_words c.args.p.now)
 
 pub words_of-requires-2 : goal.words_of-requires-2
-words_of-requires-2 c = omega (arith, key_words-split c.args.p.now, c.split_at.ensures.back_len)
+words_of-requires-2 c = omega (arith, all_words c.args.p.now, c.split_at.ensures.back_len)
 
 pub from_parts-requires-clause-boot : goal.from_parts-requires-clause-boot
 from_parts-requires-clause-boot c =
