@@ -85,7 +85,7 @@ digit-bit : (m value : ℕ) → (m ≡ 2) ⊎ (m ≡ 3) → value < 2 → digit_
 digit-bit m value (inl two) below = let P : ℕ → Type 0 = λ k. value / 2 ^ (k * 0) % 2 ^ k ≤ 1 in subst P (sym two) (omega arith)
 digit-bit m value (inr three) below = let P : ℕ → Type 0 = λ k. value / 2 ^ (k * 0) % 2 ^ k ≤ 1 in subst P (sym three) (omega arith)
 
-digit-small : (m bits value i : ℕ) (kind : Kind) → (m ≡ 2) ⊎ (m ≡ 3) → IsTrue (is_width kind bits) → value < 2 ^ bits →
+pub digit-small : (m bits value i : ℕ) (kind : Kind) → (m ≡ 2) ⊎ (m ≡ 3) → IsTrue (is_width kind bits) → value < 2 ^ bits →
     i < block_count kind m bits → digit_at m value i ≤ greatest kind m
 digit-small m bits value i Int fields width below low = digit-int m value i fields
 digit-small m bits value i Bit fields width below low =

@@ -2,3 +2,6 @@ pub mod Numbers
 pub mod Lines
 pub mod Items
 pub mod Encrypted
+pub mod KeptItems
+pub mod LineDigits
+mod Examples

@@ -64,7 +64,7 @@ within_cases false number degree digit test e =
 pub within : (number degree digit : ℕ) → Ok digit ≡ within_degree number degree → (digit ≡ number) × (number ≤ degree)
 within number degree digit e = within_cases (nat_le number degree) number degree digit refl e
 
-power-more : (m n : ℕ) → 2 ^ (m * (n + 1)) ≡ 2 ^ (m * n) * 2 ^ m
+pub power-more : (m n : ℕ) → 2 ^ (m * (n + 1)) ≡ 2 ^ (m * n) * 2 ^ m
 power-more m n =
     let e : m * (n + 1) ≡ m * n + m = omega arith in
     ap (λ k. 2 ^ k) e ∙ pow-add 2 (m * n) m

@@ -50,3 +50,10 @@ abbrev pub first_damage : Params → List ℕ → List Item → Option Damage
 first_damage p key [] = None
 first_damage p key (item ∷ items) =
     or_later (damage_in p key item.name 0 item.blocks) (first_damage p key items)
+
+-- the lines of items whose blocks keep the digits of these lists
+abbrev pub kept_lines : ℕ → List Item → List (List ℕ) → List ℕ
+kept_lines message_bits [] lists = []
+kept_lines message_bits (item ∷ items) [] = []
+kept_lines message_bits (item ∷ items) (digits ∷ lists) =
+    named_line item.name (number_of message_bits digits) ++ kept_lines message_bits items lists

@@ -17,6 +17,11 @@ use Rattle.rx_codec.specs.declared.cipher.Cipher.{Cipher}
 abbrev pub blocks_in : Params → ValueLine → ℕ
 blocks_in p v = block_count v.kind p.message_bits v.bits
 
+-- the digits of a line, the lowest first
+abbrev pub line_digits : ℕ → ValueLine → List ℕ
+line_digits message_bits v =
+    map (digit_at message_bits v.value) (range_with_len 0 (block_count v.kind message_bits v.bits))
+
 -- the fresh blocks of the digits of a line, the first of which has this number
 abbrev pub line_blocks : Params → List ℕ → List ℕ → List ℕ → ℕ → ValueLine → List Block
 line_blocks p key mask_seed noise_seed number v =

@@ -1,3 +1,4 @@
 pub mod Encrypt
 pub mod Decrypt
 pub mod Reads
+pub mod Laws

@@ -5,9 +5,10 @@ ghost use Rattle.rx_params.specs.Acceptance.{Accepts, FieldsInRange};
 ghost use Rattle.rx_params.specs.Derived.{large_dim};
 ghost use Rattle.rx_codec.specs.CipherFile.{IsItem};
 ghost use Rattle.rx_client.specs.Decrypt.{damage_in, item_number as number_of_item};
-ghost use Rattle.rx_client.specs.Reads.{Reads};
+ghost use Rattle.rx_client.specs.Reads.{Reads, ReadsKept};
 ghost use Rattle.rx_client.specs.declared.decrypt.DecryptError.TheVariants.{Damaged, Memory};
 
+use crate::laws::reading_laws;
 use rx_block::decrypt_block;
 use rx_codec::Item;
 use rx_lwe::SecretKey;
@@ -60,7 +61,8 @@ impl<T: Drop> From<AllocFailed<T>> for DecryptError {
     }
 }
 
-/// A line for each item: its name, a space, its number and a line feed.
+/// A line for each item: its name, a space, its number and a line feed. Where the blocks keep digits, that is
+/// the digits' number.
 pub fn decrypt_items(
     alloc: Global,
     p: &Params,
@@ -70,8 +72,10 @@ pub fn decrypt_items(
     requires accepted { Accepts p.now }
     requires key { length key.now ≡ large_dim p.now }
     requires items { AllByRecursion (IsItem p.now) items.now }
-    ensures { Reads string_bytes p.now key.now items.now result }
+    ensures exact { Reads string_bytes p.now key.now items.now result }
+    ensures kept { ReadsKept string_bytes p.now key.now items.now result }
 {
+    reading_laws();
     let mut lines = String::new(alloc);
     for item in items {
         let name = item.name.as_str();

@@ -1,12 +1,13 @@
 // Numbers of a value file under encryption.
-ghost use Rattle.std.specs.Prelude.{◌≡◌, ◌⊎◌, ◌+◌, ◌*◌, ◌^◌, ◌<◌, ◌++◌, IfOk, OnOk, None, length};
+ghost use Rattle.std.specs.Prelude.{◌≡◌, ◌⊎◌, ◌+◌, ◌*◌, ◌^◌, ◌<◌, ◌++◌, IfOk, OnOk, None, length, map};
 ghost use Rattle.std.specs.Option.{option_copied};
 ghost use Rattle.rx_params.specs.Acceptance.{Accepts, FieldsInRange};
 ghost use Rattle.rx_params.specs.Derived.{large_dim};
 ghost use Rattle.rx_params.specs.Kinds.{block_count, digit_at as digit_of};
 ghost use Rattle.rx_circuit.specs.Values.{AreValues, IsValueLine};
 ghost use Rattle.rx_codec.specs.CipherFile.{CipherFile, cipher_bytes, item_bytes};
-ghost use Rattle.rx_client.specs.Encrypt.{line_item, encrypted_values, has_width as has_width_of, first_width, KeepsValues};
+ghost use Rattle.rx_codec.specs.Kept.{AreItemsKept};
+ghost use Rattle.rx_client.specs.Encrypt.{line_digits, line_item, encrypted_values, has_width as has_width_of, first_width, KeepsValues};
 
 use rx_block::fresh_words_into;
 use rx_circuit::ValueLine;
@@ -58,6 +59,9 @@ pub fn encrypt_values(
         (encrypted_values p.now key.now mask_seed.now noise_seed.now lines.now)) }
     ensures keeps { IfOk result (λ _. KeepsValues p.now key.now
         (encrypted_values p.now key.now mask_seed.now noise_seed.now lines.now).items lines.now) }
+    ensures kept { IfOk result (λ _. AreItemsKept p.now key.now
+        (encrypted_values p.now key.now mask_seed.now noise_seed.now lines.now).items
+        (map (line_digits p.now.message_bits) lines.now)) }
 {
     let mut words = vec![in alloc; 0; key.bits().len() + 1]?;
     let mut file = Vec::with_capacity(alloc, file_size(p, words.len(), lines))?;

@@ -3,8 +3,10 @@
 
 mod decrypt;
 mod encrypt;
+mod laws;
 #[cfg(test)]
 mod tests;
 
 pub use decrypt::{Damage, DecryptError, decrypt_items};
 pub use encrypt::{encrypt_values, wrong_width_in};
+pub use laws::{encrypting_laws, reading_laws};

@@ -2,6 +2,7 @@ use Rattle.std.proofs.Common.{ℕ, List, ◌++◌, ap, ◌∙◌}
 use Rattle.rx_codec.specs.CipherFile.{cipher_bytes}
 use Rattle.rx_client.specs.Encrypt.{encrypted_values}
 use Rattle.rx_client.proofs.Encrypted.{values_fit, values_keep}
+use Rattle.rx_client.proofs.LineDigits.{values_kept}
 use Rattle.rx_client.proofs.encrypt.encrypt_values.Goals as goal
 
 pub returns-clause-file : goal.returns-clause-file
@@ -16,4 +17,9 @@ returns-clause-file c = record {
 pub returns-clause-keeps : goal.returns-clause-keeps
 returns-clause-keeps c =
     values_keep c.args.p.now c.args.key.now c.args.mask_seed.now c.args.noise_seed.now c.args.lines.now
+    c.requires.accepted.fields c.requires.values
+
+pub returns-clause-kept : goal.returns-clause-kept
+returns-clause-kept c =
+    values_kept c.args.p.now c.args.key.now c.args.mask_seed.now c.args.noise_seed.now c.args.lines.now
     c.requires.accepted.fields c.requires.values
