@@ -1,2 +1,4 @@
 pub mod FoundBlocks
+pub mod FoundDigits
 pub mod OutputItems
+mod Examples

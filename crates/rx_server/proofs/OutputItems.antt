@@ -3,7 +3,7 @@ use Rattle.std.proofs.Common.{◌≡◌, ℕ, zero, suc, ◌+◌, ◌-◌, ◌<�
 use Rattle.std.specs.Prelude.{◌&&◌, ◌||◌, ◌==◌, nat_le, nat_lt, not, IsTrue}
 use Rattle.std.specs.List.{AllByRecursion}
 use Rattle.std.specs.Str.{bytes_eq}
-use Rattle.std.proofs.lemmas.List.{length-map}
+use Rattle.std.proofs.lemmas.List.{length-map, map-append}
 use Rattle.std.proofs.lemmas.List.Folds.{list_any-append}
 use Rattle.std.proofs.lemmas.Bool.{leb-true, ltb-true, eqb-true}
 use Rattle.std.proofs.lemmas.Bool.Decides.{same_from_decides, Decides-like}
@@ -19,8 +19,11 @@ use Rattle.rx_net.specs.Cells.{cell_count, degree, noise}
 use Rattle.rx_net.specs.Legal.{InTurn, Legal, is_output, are_cells, names_output}
 use Rattle.rx_block.specs.declared.block.Block.{Block}
 use Rattle.rx_block.specs.Combine.{no_block}
+use Rattle.rx_block.specs.Keeps.{Keeps, AreKept}
+use Rattle.rx_block.specs.Outputs.{blocks_at, numbers_of, output_blocks}
 use Rattle.rx_codec.specs.CipherFile.{has_item, IsBlock, IsItem, ItemsOnce, IsCipher}
-use Rattle.rx_server.specs.Outputs.{blocks_of, output_blocks, output_item, items_over, outputs_cipher}
+use Rattle.rx_codec.specs.Kept.{AreItemsKept}
+use Rattle.rx_server.specs.Outputs.{output_item, items_over, outputs_cipher, values_of}
 use Rattle.rx_server.specs.Laws.{IsBlockWithin, AreCellBlocks}
 
 -- ---- blocks shared out among the outputs
@@ -37,15 +40,19 @@ dropped_first [] ys (suc n) e = absurd (omega (arith, e))
 dropped_first (x ∷ xs) ys zero e = absurd (omega (arith, e))
 dropped_first (x ∷ xs) ys (suc n) e = dropped_first xs ys n (omega (arith, e))
 
+-- the blocks of the first output, and those of the others
+first_output : (cells : List Block) (o : NetOutput) (os : List NetOutput) →
+    output_blocks cells (o ∷ os) ≡ blocks_at cells o.cells ++ output_blocks cells os
+first_output cells o os = map-append (λ (c : ℕ). get_or cells c no_block) o.cells (numbers_of os)
+
 pub shared_out : (cells : List Block) (os : List NetOutput) → items_over os (output_blocks cells os) ≡ map (output_item cells) os
 shared_out cells [] = refl
 shared_out cells (o ∷ os) =
-    let size : length (blocks_of cells o) ≡ length o.cells = length-map o.cells (λ (c : ℕ). get_or cells c no_block) in
-    let own : take (length o.cells) (blocks_of cells o ++ output_blocks cells os) ≡ blocks_of cells o =
-    taken_first (blocks_of cells o) (output_blocks cells os) (length o.cells) size in
-    let left : drop (length o.cells) (blocks_of cells o ++ output_blocks cells os) ≡ output_blocks cells os =
-    dropped_first (blocks_of cells o) (output_blocks cells os) (length o.cells) size in
-    rw (own, left) (ap (λ items. output_item cells o ∷ items) (shared_out cells os))
+    let first : List Block = blocks_at cells o.cells in
+    let others : List Block = output_blocks cells os in
+    let size : length first ≡ length o.cells = length-map o.cells (λ (c : ℕ). get_or cells c no_block) in
+    rw (first_output cells o os, taken_first first others (length o.cells) size, dropped_first first others (length o.cells) size)
+    (ap (λ items. output_item cells o ∷ items) (shared_out cells os))
 
 -- one block more is taken of those that are left
 pub taken_on : (n i : ℕ) (taken left rest : List Block) (b : Block) → i < n → left ≡ b ∷ rest → (taken ++ b ∷ []) ++ take (n - (i + 1)) rest ≡ taken ++ take (n - i) left
@@ -170,3 +177,44 @@ outputs_fit p net blocks accepted s legal names are = record {
   items = items_fit p net blocks [] net.outputs s are names legal.outputs;
   once = once blocks net.space (cell_count net) (degree net) [] net.outputs legal.outputs;
 }
+
+-- ---- what the items keep
+
+cell_keeps : (p : Params) (key : List ℕ) (blocks : List Block) (values : List ℕ) (degree : ℕ → ℕ) (most : ℕ) (cells : List ℕ) (i : ℕ)
+    → AreKept p key blocks values → IsTrue (are_cells (length blocks) degree most cells) → i < length cells
+    → Keeps p key (get_or (map (λ c. get_or blocks c no_block) cells) i no_block) (get_or (map (λ c. get_or values c 0) cells) i 0)
+cell_keeps p key blocks values degree most [] i are h low = absurd (omega (arith, low))
+cell_keeps p key blocks values degree most (c ∷ cells) zero are h low =
+    let a = both (nat_lt c (length blocks) && nat_le (degree c) most) (are_cells (length blocks) degree most cells) h in
+    let b = both (nat_lt c (length blocks)) (nat_le (degree c) most) a.0 in
+    are.each c (ltb-true c (length blocks) b.0)
+cell_keeps p key blocks values degree most (c ∷ cells) (suc i) are h low =
+    let a = both (nat_lt c (length blocks) && nat_le (degree c) most) (are_cells (length blocks) degree most cells) h in
+    cell_keeps p key blocks values degree most cells i are a.1 (omega (arith, low))
+
+output_keeps : (p : Params) (key : List ℕ) (blocks : List Block) (values : List ℕ) (degree : ℕ → ℕ) (most : ℕ) (o : NetOutput)
+    → AreKept p key blocks values → IsTrue (are_cells (length blocks) degree most o.cells)
+    → AreKept p key (blocks_at blocks o.cells) (values_of values o)
+output_keeps p key blocks values degree most o are h =
+    let size : length (blocks_at blocks o.cells) ≡ length o.cells = length-map o.cells (λ (c : ℕ). get_or blocks c no_block) in
+    record {
+      count = length-map o.cells (λ (c : ℕ). get_or values c 0) ∙ sym size;
+      each = λ i low. cell_keeps p key blocks values degree most o.cells i are h (omega (arith, low, size));
+    }
+
+items_keep : (p : Params) (space : ℕ) (key : List ℕ) (blocks : List Block) (values : List ℕ) (degree : ℕ → ℕ) (before os : List NetOutput)
+    → AreKept p key blocks values → AreOutputs space (length blocks) degree before os
+    → AreItemsKept p key (map (output_item blocks) os) (map (values_of values) os)
+items_keep p space key blocks values degree before [] are outputs = tt
+items_keep p space key blocks values degree before (o ∷ os) are outputs =
+    let is : IsOutput space (length blocks) degree before o = output_is space (length blocks) degree before o outputs.0 in (
+      output_keeps p key blocks values degree (greatest o.kind space) o are is.cells,
+      items_keep p space key blocks values degree (before ++ o ∷ []) os are outputs.1,
+    )
+
+-- each output's item keeps the values of its cells
+pub outputs_keep : (p : Params) (net : Net) (key : List ℕ) (blocks : List Block) (values : List ℕ) → Legal net → length blocks ≡ cell_count net
+    → AreKept p key blocks values → AreItemsKept p key (map (output_item blocks) net.outputs) (map (values_of values) net.outputs)
+outputs_keep p net key blocks values legal size are =
+    items_keep p net.space key blocks values (degree net) [] net.outputs are
+    (subst (λ count. AreOutputs net.space count (degree net) [] net.outputs) (sym size) legal.outputs)

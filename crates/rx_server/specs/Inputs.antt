@@ -1,5 +1,5 @@
 -- The inputs of a net, found among the items of ciphertext files.
-use Rattle.std.specs.Prelude.{ℕ, Bool, true, false, nat_lt, ◌&&◌, ◌==◌, List, [], ◌∷◌, Option, Some, None, if◌then◌else◌}
+use Rattle.std.specs.Prelude.{ℕ, Bool, true, false, nat_lt, ◌&&◌, ◌==◌, List, [], ◌∷◌, ◌++◌, Option, Some, None, if◌then◌else◌}
 use Rattle.std.specs.List.{flat_map, filter}
 use Rattle.std.specs.Str.{bytes_eq}
 use Rattle.rx_params.specs.declared.kind.Kind.{Kind}
@@ -55,3 +55,14 @@ first_fault (input ∷ inputs) items = or_later (found_fault input (named input.
 -- the blocks of the inputs, in the order of the net
 abbrev pub blocks_found : List NetInput → List Item → List Block
 blocks_found inputs items = flat_map (λ input. flat_map (λ item. item.blocks) (named input.name items)) inputs
+
+-- the digits of the items of a name, where each item has those of the list at its place
+abbrev pub digits_named : List ℕ → List Item → List (List ℕ) → List ℕ
+digits_named name [] lists = []
+digits_named name (item ∷ items) [] = []
+digits_named name (item ∷ items) (digits ∷ lists) =
+    if bytes_eq item.name name then digits ++ digits_named name items lists else digits_named name items lists
+
+-- the digits of the inputs, in the order of the net
+abbrev pub digits_found : List NetInput → List Item → List (List ℕ) → List ℕ
+digits_found inputs items lists = flat_map (λ input. digits_named input.name items lists) inputs

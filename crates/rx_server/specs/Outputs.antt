@@ -1,20 +1,11 @@
 -- The outputs of a net, as the items of a ciphertext file.
-use Rattle.std.specs.Prelude.{List, [], ◌∷◌, length, map, get_or, take, drop}
-use Rattle.std.specs.List.{flat_map}
+use Rattle.std.specs.Prelude.{ℕ, List, [], ◌∷◌, length, map, get_or, take, drop}
 use Rattle.rx_params.specs.declared.params.Params.{Params}
 use Rattle.rx_net.specs.declared.net.NetOutput.{NetOutput}
 use Rattle.rx_block.specs.declared.block.Block.{Block}
-use Rattle.rx_block.specs.Combine.{no_block}
+use Rattle.rx_block.specs.Outputs.{blocks_at}
 use Rattle.rx_codec.specs.declared.cipher.Item.{Item}
 use Rattle.rx_codec.specs.declared.cipher.Cipher.{Cipher}
-
--- the blocks of an output's cells
-abbrev pub blocks_of : List Block → NetOutput → List Block
-blocks_of cells output = map (λ cell. get_or cells cell no_block) output.cells
-
--- the blocks of all outputs, one after another
-abbrev pub output_blocks : List Block → List NetOutput → List Block
-output_blocks cells outputs = flat_map (blocks_of cells) outputs
 
 -- an output of these blocks
 abbrev pub item_with : NetOutput → List Block → Item
@@ -22,7 +13,7 @@ item_with output blocks = record { name = output.name; kind = output.kind; bits 
 
 -- an output whose blocks are those of its cells
 abbrev pub output_item : List Block → NetOutput → Item
-output_item cells output = item_with output (blocks_of cells output)
+output_item cells output = item_with output (blocks_at cells output.cells)
 
 -- outputs that share out some blocks, each as many as it has cells
 abbrev pub items_over : List NetOutput → List Block → List Item
@@ -32,3 +23,7 @@ items_over (o ∷ os) blocks = item_with o (take (length o.cells) blocks) ∷ it
 -- the ciphertext of the outputs over the blocks of all cells
 abbrev pub outputs_cipher : Params → List Block → List NetOutput → Cipher
 outputs_cipher p cells outputs = record { params = p; items = map (output_item cells) outputs }
+
+-- the values of an output's cells
+abbrev pub values_of : List ℕ → NetOutput → List ℕ
+values_of values output = map (λ cell. get_or values cell 0) output.cells

@@ -2,7 +2,8 @@
 ghost use Rattle.std.specs.Prelude.{◌≡◌, List, IfOk, map, take, drop};
 ghost use Rattle.std.specs.Vec.Iter.{into_iter_items};
 ghost use Rattle.rx_block.specs.declared.block.Block.{Block};
-ghost use Rattle.rx_server.specs.Outputs.{items_over, output_blocks, output_item};
+ghost use Rattle.rx_block.specs.Outputs.{output_blocks};
+ghost use Rattle.rx_server.specs.Outputs.{items_over, output_item};
 
 use rx_block::Block;
 use rx_codec::{Blocks, Item, Items};
