@@ -3,6 +3,8 @@ use Rattle.std.proofs.Common.{◌≤◌, lit≤, ◌≡◌, ◌⊎◌, ◌≢◌
 use Rattle.std.specs.Option.{option_map}
 use Rattle.rx_store.specs.Files.{Files}
 use Rattle.rx_store.specs.Counts.{Rose}
+use Rattle.rx_codec.specs.Laws.{FileLaws}
+use Rattle.rx_client.specs.Laws.{ReadingLaws}
 use Rattle.rx_report.specs.declared.refusal.Kind.{Kind}
 use Rattle.rx_report.specs.declared.refusal.Kind.TheVariants.{Malformed, NotAccepted, Mismatch, Inputs, Damaged, Limit}
 use Rattle.rx_tool.specs.declared.command.Command.{Command}
@@ -12,7 +14,8 @@ use Rattle.rx_tool.specs.Got.{Got, whole, long, missing, got, refuses, as_report
 use Rattle.rx_tool.specs.Left.{Prints}
 use Rattle.rx_tool.specs.Ran.{World, Untouched, Finished, Stopped, Ran, refused, unread, no_memory, stopped, out_of_memory, finished}
 use Rattle.rx_tool.proofs.GotLemmas.{one_told}
-use Rattle.rx_tool.specs.Told.{IsRefusal, RefusedBy, Refuses, SaysSo, Faultless, DoneBy, StoppedBy, FailedAt, LeftAlone, Complete, Absent}
+use Rattle.rx_tool.proofs.KeptFiles.{kept_passes}
+use Rattle.rx_tool.specs.Told.{IsRefusal, RefusedBy, Refuses, SaysSo, Faultless, DoneBy, StoppedBy, FailedAt, LeftAlone, Complete, Absent, DecryptsKept, NeverDamaged}
 
 same_status : (a b : ℕ) (l m : List ℕ) → ◌≡◌ {A = Option (ℕ × List ℕ)} (Some (a, l)) (Some (b, m)) → a ≡ b
 same_status a b l m e = ap (λ o. (unwrap_or {T = ℕ × List ℕ} o (a, l)).0) e
@@ -283,3 +286,13 @@ module _ {command : Option Command} {before after : World} where
   absent (out_of_memory given is accept stop) = any_told before.files (λ f none. inr refl)
   absent (finished given is accept done) =
       one_told before.files is (λ f g none. absurd (does_whole command given done.writes done.lines done.does (sym g ∙ none)))
+
+  pub never_damaged : {status : ℕ} → ReadingLaws → FileLaws → Ran command before after status → NeverDamaged command before.files status
+  never_damaged reading laws (refused given status line is refuse same prints) =
+      one_told before.files is (λ f g kept nine.
+      let none : refuses command given ≡ None = kept_passes reading laws command given (subst (DecryptsKept command) g kept) in cc)
+  never_damaged reading laws (unread has alone why) = any_told before.files (λ f kept nine. omega arith)
+  never_damaged reading laws (no_memory alone) = any_told before.files (λ f kept nine. omega arith)
+  never_damaged reading laws (stopped given is accept stop why) = any_told before.files (λ f kept nine. omega arith)
+  never_damaged reading laws (out_of_memory given is accept stop) = any_told before.files (λ f kept nine. omega arith)
+  never_damaged reading laws (finished given is accept done) = any_told before.files (λ f kept nine. omega arith)

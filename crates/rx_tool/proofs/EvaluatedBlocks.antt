@@ -1,9 +1,8 @@
 -- The blocks of all cells of a net that was evaluated.
 use Rattle.std.proofs.Common.{◌≡◌, inl, inr, ℕ, ℤ, zero, suc, ◌+◌, ◌-◌, ◌^◌, ◌<◌, List, [], ◌∷◌, ◌++◌, length, get_or, map, drop, pos, refl, sym, ◌∙◌, ap, subst, arith, length-append, append_assoc, append-nil}
 use Rattle.std.specs.Prelude.{EachIndex, slice_index}
-use Rattle.std.specs.List.{flat_map}
 use Rattle.std.proofs.lemmas.Bool.{cases_lt}
-use Rattle.std.proofs.lemmas.List.{length-map, map-append, get_or_append_left, get_or-append_right}
+use Rattle.std.proofs.lemmas.List.{length-map, get_or_append_left, get_or-append_right}
 use Rattle.std.proofs.Math.Seq.{drop-append_seam}
 use Rattle.rx_laws.specs.Words.{words_below}
 use Rattle.rx_laws.proofs.Torus.{word-lt}
@@ -11,7 +10,6 @@ use Rattle.rx_laws.proofs.Words.{words_below-are}
 use Rattle.rx_params.specs.declared.params.Params.{Params}
 use Rattle.rx_params.specs.Derived.{large_dim}
 use Rattle.rx_net.specs.declared.net.Job.{Job}
-use Rattle.rx_net.specs.declared.net.NetOutput.{NetOutput}
 use Rattle.rx_net.specs.declared.net.Net.{Net}
 use Rattle.rx_net.specs.Cells.{input_cells, cell_count, given, laid, cells_of, operand_words, declared_degree, unit_noise, degrees_after, noises_after, degree, noise}
 use Rattle.rx_net.proofs.Laid.{laid_alone}
@@ -21,9 +19,7 @@ use Rattle.rx_boot.specs.Bootstrap.{bootstrapped}
 use Rattle.rx_block.specs.declared.block.Block.{Block}
 use Rattle.rx_block.specs.Combine.{no_block}
 use Rattle.rx_crew.specs.Kernel.{key_basis, job_words}
-use Rattle.rx_crew.specs.Evaluation as crew
 use Rattle.rx_crew.specs.Evaluation.{evaluated, job_blocks, AreInputs}
-use Rattle.rx_server.specs.Outputs as server
 use Rattle.rx_server.specs.Laws.{IsBlockWithin, AreCellBlocks}
 
 -- the blocks that were found are inputs of the evaluation
@@ -34,13 +30,6 @@ are_inputs p net blocks are = record {
   degrees = λ c low. (are.each c low).degree;
   noises = λ c low. (are.each c low).noise;
 }
-
--- the blocks of all outputs, in either order of words
-pub outputs-same : (cells : List Block) (os : List NetOutput) → crew.output_blocks cells os ≡ server.output_blocks cells os
-outputs-same cells [] = refl
-outputs-same cells (o ∷ os) =
-    let at : ℕ → Block = λ c. get_or cells c no_block in
-    map-append at o.cells (flat_map (λ (q : NetOutput). q.cells) os) ∙ ap (λ bs. map at o.cells ++ bs) (outputs-same cells os)
 
 -- ---- the cells of the jobs
 

@@ -7,7 +7,8 @@ use Rattle.rx_codec.specs.declared.cipher.Cipher.{Cipher}
 use Rattle.rx_codec.specs.declared.fault.CodecFault.{CodecFault}
 use Rattle.rx_codec.specs.ClientFile.{ClientFile, client_from}
 use Rattle.rx_codec.specs.CipherFile.{CipherFile, cipher_from}
-use Rattle.rx_client.specs.Decrypt.{item_lines, first_damage}
+use Rattle.rx_codec.specs.Kept.{AreItemsKept}
+use Rattle.rx_client.specs.Decrypt.{item_lines, kept_lines, first_damage}
 use Rattle.rx_report.specs.declared.difference.Difference.{Difference}
 use Rattle.rx_report.specs.Reports.{Report, malformed_binary, difference_of, mismatch, damaged}
 use Rattle.rx_tool.specs.declared.command.Command.{Command}
@@ -37,8 +38,21 @@ decrypt_refusal client input (client_file ∷ cipher_file ∷ []) =
     decrypt_refused client input (client_from client_file) (cipher_from cipher_file)
 decrypt_refusal client input _ = None
 
+-- where the blocks keep digits under the client's key, the lines are those of the digits' numbers
+abbrev pub PrintsKept : Client → Cipher → List ℕ → Type 0
+PrintsKept c x lines =
+    (digits : List (List ℕ)) → AreItemsKept c.params (large_key c.params c.seed) x.items digits →
+    lines ≡ kept_lines c.params.message_bits x.items digits
+
+-- the two files are a client's and a ciphertext of its set, whose blocks keep some digits under the client's key
+abbrev pub AreKeptFiles : List (List ℕ) → Type 0
+AreKeptFiles (client_file ∷ cipher_file ∷ []) =
+    (c : Client) × (x : Cipher) × (digits : List (List ℕ)) × ClientFile client_file c × CipherFile cipher_file x
+    × (x.params ≡ c.params) × AreItemsKept c.params (large_key c.params c.seed) x.items digits
+AreKeptFiles _ = ⊥
+
 abbrev pub DecryptDoes : List (List ℕ) → List (List ℕ × List ℕ) → List ℕ → Type 0
 DecryptDoes (client_file ∷ cipher_file ∷ []) writes lines =
     (c : Client) × (x : Cipher) × ClientFile client_file c × CipherFile cipher_file x × (x.params ≡ c.params)
-    × (writes ≡ []) × (lines ≡ item_lines c.params (large_key c.params c.seed) x.items)
+    × (writes ≡ []) × (lines ≡ item_lines c.params (large_key c.params c.seed) x.items) × PrintsKept c x lines
 DecryptDoes _ writes lines = ⊥

@@ -13,3 +13,4 @@ pub mod Left
 pub mod Ran
 pub mod Parts
 pub mod Told
+pub mod WholeWay

@@ -1,31 +1,34 @@
 -- run SERVER NET WORKERS OUT IN..: evaluates a net over the items of ciphertext files, and writes its outputs.
-use Rattle.std.specs.Prelude.{ℕ, ◌≡◌, ◌≤◌, ◌^◌, nat_lt, nat_le, ◌==◌, ◌&&◌, if◌then◌else◌, List, [], ◌∷◌, ◌++◌, length, codes, decimal, Option, Some, None, Result, Ok, Err}
+use Rattle.std.specs.Prelude.{ℕ, ◌≡◌, ◌≤◌, ◌^◌, nat_lt, nat_le, ◌==◌, ◌&&◌, if◌then◌else◌, List, [], ◌∷◌, ◌++◌, length, map, codes, decimal, Option, Some, None, Result, Ok, Err}
 use Rattle.std.specs.Option.{option_map, option_and_then}
 use Rattle.std.specs.List.{AllByRecursion}
 use Rattle.rx_text.specs.Numerals.{numeral_of}
 use Rattle.rx_params.specs.declared.params.Params.{Params}
 use Rattle.rx_net.specs.declared.net.Net.{Net}
-use Rattle.rx_boot.specs.ServerKeys.{ServerWords}
+use Rattle.rx_net.specs.Cells.{values_after}
+use Rattle.rx_boot.specs.ServerKeys.{ServerWords, IsSecret, IsServerKey}
 use Rattle.rx_block.specs.declared.block.Block.{Block}
+use Rattle.rx_block.specs.Keeps.{AreKept}
 use Rattle.rx_codec.specs.declared.cipher.Cipher.{Cipher}
 use Rattle.rx_codec.specs.declared.fault.CodecFault.{CodecFault}
 use Rattle.rx_codec.specs.ServerFile.{ServerFile, server_from}
 use Rattle.rx_codec.specs.NetFile.{NetFile, net_from}
 use Rattle.rx_codec.specs.CipherFile.{CipherFile, IsCipher, cipher_from}
-use Rattle.rx_server.specs.Inputs.{items_of, first_fault, blocks_found}
-use Rattle.rx_server.specs.Outputs.{outputs_cipher}
+use Rattle.rx_codec.specs.Kept.{AreItemsKept}
+use Rattle.rx_server.specs.Inputs.{items_of, first_fault, blocks_found, digits_found}
+use Rattle.rx_server.specs.Outputs.{outputs_cipher, values_of}
 use Rattle.rx_crew.specs.Evaluation.{evaluated, board_words, board_limit}
 use Rattle.rx_report.specs.Reports.{Report, malformed_binary, difference_of, mismatch, wrong_input, wrong_workers, wide_board}
 use Rattle.rx_tool.specs.declared.command.Command.{Command}
 use Rattle.rx_tool.specs.declared.command.Command.TheVariants.{Run}
 
 -- the number of a word: a numeral below 2 ^ 64
-abbrev pub number_of : List ℕ → Option ℕ
-number_of word = option_and_then (λ n. if nat_lt n (2 ^ 64) then Some n else None) (numeral_of word)
+abbrev pub word_number : List ℕ → Option ℕ
+word_number word = option_and_then (λ n. if nat_lt n (2 ^ 64) then Some n else None) (numeral_of word)
 
 abbrev pub run_of : List (List ℕ) → Option Command
 run_of (server ∷ net ∷ workers ∷ out ∷ inputs) =
-    if nat_le (length inputs) 64 then option_map (λ count. Run server net count out inputs) (number_of workers) else None
+    if nat_le (length inputs) 64 then option_map (λ count. Run server net count out inputs) (word_number workers) else None
 run_of _ = None
 
 -- ---- what refuses, one thing after another
@@ -135,12 +138,33 @@ run_cipher k net ciphers = outputs_cipher k.params (run_cells k net ciphers) net
 abbrev pub jobs_line : ℕ → List ℕ
 jobs_line jobs = codes "jobs " ++ (decimal jobs ++ 10 ∷ [])
 
--- The one ciphertext file that the server key, the net and the inputs determine, whatever the number of workers; and the
--- line of the number of jobs.
+-- the values of each output's cells, for values of the input cells
+abbrev pub output_digits : Net → List ℕ → List (List ℕ)
+output_digits net values = map (values_of (values_after values net.jobs)) net.outputs
+
+-- For every secret of which the server key is one: where the blocks of the net's inputs keep values, each block of the outputs
+-- keeps the value that the net gives its cell.
+abbrev pub KeepsRun : ServerWords → Net → List Cipher → Type 0
+KeepsRun k net ciphers =
+    (small large values : List ℕ) → IsSecret k.params small large → IsServerKey small large k →
+    AreKept k.params large (blocks_found net.inputs (items_of ciphers)) values →
+    AreItemsKept k.params large (run_cipher k net ciphers).items (output_digits net values)
+
+-- For every such secret: where the items of the input files keep digits, those that are written keep the digits that the net
+-- gives for the digits of its inputs.
+abbrev pub KeepsItems : ServerWords → Net → List Cipher → Type 0
+KeepsItems k net ciphers =
+    (small large : List ℕ) (lists : List (List ℕ)) → IsSecret k.params small large → IsServerKey small large k →
+    AreItemsKept k.params large (items_of ciphers) lists →
+    AreItemsKept k.params large (run_cipher k net ciphers).items
+    (output_digits net (digits_found net.inputs (items_of ciphers) lists))
+
+-- The one ciphertext file that the server key, the net and the inputs determine, whatever the number of workers, that it keeps
+-- the net's values, and the line of the number of jobs.
 abbrev pub RunDoes : List ℕ → List (List ℕ) → List (List ℕ × List ℕ) → List ℕ → Type 0
 RunDoes out (server_file ∷ net_file ∷ files) writes lines =
     (k : ServerWords) × (net : Net) × (ciphers : List Cipher) × (bytes : List ℕ)
     × ServerFile server_file k × NetFile net_file net × AreCiphers files ciphers
-    × CipherFile bytes (run_cipher k net ciphers)
+    × CipherFile bytes (run_cipher k net ciphers) × KeepsRun k net ciphers × KeepsItems k net ciphers
     × (writes ≡ (out, bytes) ∷ []) × (lines ≡ jobs_line (length net.jobs))
 RunDoes out _ writes lines = ⊥

@@ -3,7 +3,9 @@ use Rattle.std.specs.Prelude.{◌≡◌, ◌≢◌, ◌⊎◌, ℕ, List, Option
 use Rattle.rx_store.specs.Files.{Files}
 use Rattle.rx_store.specs.Counts.{Rose}
 use Rattle.rx_tool.specs.declared.command.Command.{Command}
-use Rattle.rx_tool.specs.Got.{missing, got, refuses}
+use Rattle.rx_tool.specs.declared.command.Command.TheVariants.{Decrypt}
+use Rattle.rx_tool.specs.Decrypt.{AreKeptFiles}
+use Rattle.rx_tool.specs.Got.{Got, whole, missing, got, refuses}
 use Rattle.rx_tool.specs.Left.{Prints}
 use Rattle.rx_tool.specs.Ran.{Untouched, Finished, Stopped}
 
@@ -71,3 +73,12 @@ Complete command files status =
 abbrev pub Absent : Option Command → Option Files → ℕ → Type 0
 Absent command files status =
     IfSome files (λ f. got command f ≡ missing → (status ≡ 3) ⊎ (status ≡ 11))
+
+-- the command decrypts a file whose blocks keep numbers under the client's key
+abbrev pub DecryptsKept : Option Command → Got → Type 0
+DecryptsKept (Some (Decrypt client input)) (whole files) = AreKeptFiles files
+DecryptsKept _ _ = ⊥
+
+-- then no damage is reported
+abbrev pub NeverDamaged : Option Command → Option Files → ℕ → Type 0
+NeverDamaged command files status = IfSome files (λ f. DecryptsKept command (got command f) → status ≢ 9)

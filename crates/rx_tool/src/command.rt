@@ -6,7 +6,7 @@ ghost use Rattle.rx_tool.specs.Check.{check_of};
 ghost use Rattle.rx_tool.specs.MakeClient.{client_of, seed_of};
 ghost use Rattle.rx_tool.specs.Keygen.{keygen_of};
 ghost use Rattle.rx_tool.specs.Encrypt.{encrypt_of};
-ghost use Rattle.rx_tool.specs.Run.{number_of, run_of};
+ghost use Rattle.rx_tool.specs.Run.{run_of, word_number};
 ghost use Rattle.rx_tool.specs.Decrypt.{decrypt_of};
 ghost use Rattle.rx_tool.specs.Words.{texts};
 
@@ -86,7 +86,7 @@ fn parse_seed(word: &str) -> Option<[u8; 32]>
 
 /// A number is a numeral below 2^64.
 fn parse_number(word: &str) -> Option<u64>
-    ensures { result ≡ number_of word.now }
+    ensures { result ≡ word_number word.now }
 {
     match Numeral::of(word.as_bytes()) {
         Some(Numeral::Word(number)) => Some(number),

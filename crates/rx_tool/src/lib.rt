@@ -6,9 +6,11 @@ mod command;
 mod commands;
 mod done;
 mod engine;
+mod laws;
 mod text;
 mod top;
 
+pub use laws::whole_way_laws;
 pub use rx_crew::{Gate, OpenGate};
 pub use top::tool;
 

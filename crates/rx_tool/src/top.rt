@@ -5,7 +5,7 @@ ghost use Rattle.rx_report.specs.declared.refusal.Kind.{Kind};
 ghost use Rattle.rx_report.specs.Reports.{status_of, usage_line};
 ghost use Rattle.rx_tool.specs.Got.{got, missing};
 ghost use Rattle.rx_tool.specs.Left.{Prints};
-ghost use Rattle.rx_tool.specs.Told.{IsRefusal, RefusedBy, Refuses, DoneBy, StoppedBy, FailedAt, LeftAlone, Faultless, Complete, Absent};
+ghost use Rattle.rx_tool.specs.Told.{IsRefusal, RefusedBy, Refuses, DoneBy, StoppedBy, FailedAt, LeftAlone, Faultless, Complete, Absent, NeverDamaged};
 ghost use Rattle.rx_tool.specs.Words.{texts};
 ghost use Rattle.rx_tool.specs.Answers.{Answers};
 ghost use Rattle.rx_tool.specs.Commands.{command_of, reads_of};
@@ -19,6 +19,8 @@ use crate::commands::{
 use crate::done::{Done, Output, Stop};
 use crate::engine::{read_all, write_all};
 use crate::text::Bytes;
+use rx_client::reading_laws;
+use rx_codec::file_laws;
 use rx_crew::Gate;
 use rx_store::{Sink, Store, WriteError};
 use std::alloc::Global;
@@ -54,6 +56,9 @@ pub fn tool<R: Threads + Sync, S: Store, K: Sink, G: Gate + Sync>(
     ensures unwritten { IsRefusal result ⊎ (result ≡ 3) → S.files store.new ≡ S.files store.old }
     ensures silent { result ≡ 3 → K.written sink.new ≡ K.written sink.old }
 
+    // A ciphertext file whose blocks keep numbers under the client's key is never damaged.
+    ensures undamaged { NeverDamaged (command_of (texts words.now)) (S.files store.old) result }
+
     // What is done, and what stands where it was not.
     ensures done { result ≡ 0 → DoneBy (command_of (texts words.now)) (S.files store.old) (S.files store.new) (K.written sink.old) (K.written sink.new) }
     ensures stopped { result ≡ 4 → FailedAt (command_of (texts words.now)) (S.files store.old) (S.files store.new) (K.written sink.old) (K.written sink.new) }
@@ -67,6 +72,8 @@ pub fn tool<R: Threads + Sync, S: Store, K: Sink, G: Gate + Sync>(
     ensures complete { Faultless (S.read_faults store.old) (S.read_faults store.new) (S.write_faults store.old) (S.write_faults store.new) (K.faults sink.old) (K.faults sink.new)
         → Complete (command_of (texts words.now)) (S.files store.old) result }
 {
+    file_laws();
+    reading_laws();
     let status = run_words(rt, alloc, words, store, sink, gate);
     status
 }

@@ -1,11 +1,12 @@
 // encrypt CLIENT MASKSEED NOISESEED VALUES OUT: writes the ciphertext file of the fresh blocks of all
 // numbers.
-ghost use Rattle.std.specs.Prelude.{◌≡◌, IfOk, None, length};
+ghost use Rattle.std.specs.Prelude.{◌≡◌, IfOk, None, length, map};
 ghost use Rattle.rx_params.specs.Acceptance.{Accepts};
 ghost use Rattle.rx_lwe.specs.Secret.{large_key};
 ghost use Rattle.rx_circuit.specs.Values.{AreValues};
 ghost use Rattle.rx_codec.specs.CipherFile.{CipherFile};
-ghost use Rattle.rx_client.specs.Encrypt.{first_width, KeepsValues};
+ghost use Rattle.rx_codec.specs.Kept.{AreItemsKept};
+ghost use Rattle.rx_client.specs.Encrypt.{line_digits, first_width, KeepsValues};
 ghost use Rattle.rx_tool.specs.Answers.{Answers};
 ghost use Rattle.rx_tool.specs.Encrypt.{encryption};
 ghost use Rattle.rx_tool.specs.declared.command.Command.TheVariants.{Encrypt};
@@ -67,6 +68,10 @@ fn encrypted(
     ensures keeps { IfOk result (λ _.
         KeepsValues keys.now.params (large_key keys.now.params keys.now.seed)
         (encryption keys.now mask_seed.now noise_seed.now lines.now).items lines.now) }
+    ensures kept { IfOk result (λ _.
+        AreItemsKept keys.now.params (large_key keys.now.params keys.now.seed)
+        (encryption keys.now mask_seed.now noise_seed.now lines.now).items
+        (map (line_digits keys.now.params.message_bits) lines.now)) }
 {
     let key = SecretKey::large(alloc, &keys.params, &keys.seed)?;
     encrypt_values(

@@ -1,9 +1,9 @@
 // run SERVER NET WORKERS OUT IN..: evaluates a net over the items of ciphertext files, and writes its outputs.
 ghost use Rattle.std.specs.Prelude.{◌≡◌, ◌≤◌, ◌+◌, IfOk, length, string_bytes};
+ghost use Rattle.rx_net.specs.Named.{IsNet};
 ghost use Rattle.rx_codec.specs.CipherFile.{CipherFile};
-ghost use Rattle.rx_codec.specs.NetFile.{IsNet};
 ghost use Rattle.rx_tool.specs.Answers.{Answers};
-ghost use Rattle.rx_tool.specs.Run.{AreCipherValues, MayRun, jobs_line, run_cipher};
+ghost use Rattle.rx_tool.specs.Run.{AreCipherValues, KeepsItems, KeepsRun, MayRun, jobs_line, run_cipher};
 ghost use Rattle.rx_tool.specs.declared.command.Command.TheVariants.{Run};
 
 use crate::commands::parts::{one_file, stop_for};
@@ -75,7 +75,7 @@ pub fn run_net_files<R: Threads + Sync, G: Gate + Sync>(
     })
 }
 
-/// Evaluates a net that may be run, and spells its outputs.
+/// Evaluates a net that may be run, and spells its outputs, which keep the values that the net gives them.
 fn evaluate<R: Threads + Sync, G: Gate + Sync>(
     rt: &R,
     alloc: Global,
@@ -89,6 +89,8 @@ fn evaluate<R: Threads + Sync, G: Gate + Sync>(
     requires ciphers { AreCipherValues ciphers.now }
     requires may { MayRun key.now net.now workers ciphers.now }
     ensures file { IfOk result (λ made. CipherFile made.bytes.items (run_cipher key.now net.now ciphers.now)) }
+    ensures keeps { IfOk result (λ _. KeepsRun key.now net.now ciphers.now) }
+    ensures keeps_items { IfOk result (λ _. KeepsItems key.now net.now ciphers.now) }
     ensures jobs { IfOk result (λ made. made.jobs ≡ length net.now.jobs) }
 {
     server_laws();

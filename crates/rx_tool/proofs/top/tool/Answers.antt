@@ -49,3 +49,6 @@ returns-clause-complete g c = clauses.complete c.run_words-status.ensures
 
 pub returns-clause-absent : goal.returns-clause-absent
 returns-clause-absent g c = clauses.absent c.run_words-status.ensures
+
+pub returns-clause-undamaged : goal.returns-clause-undamaged
+returns-clause-undamaged g c = clauses.never_damaged c.reading_laws.ensures c.file_laws.ensures c.run_words-status.ensures

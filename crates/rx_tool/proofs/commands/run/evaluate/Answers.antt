@@ -2,8 +2,9 @@ use Rattle.std.proofs.Common.{◌∙◌, sym, ap, subst}
 use Rattle.rx_params.specs.Acceptance.{Accepts}
 use Rattle.rx_codec.specs.CipherFile.{IsCipher, cipher_bytes}
 use Rattle.rx_crew.specs.Evaluation.{AreInputs}
+use Rattle.rx_crew.specs.Noise.{KeepsCells}
 use Rattle.rx_tool.proofs.EvaluatedBlocks.{are_inputs}
-use Rattle.rx_tool.proofs.NetRuns.{found_fit, outputs_fit, outputs_made}
+use Rattle.rx_tool.proofs.NetRuns.{found_fit, outputs_fit, keeps_run, keeps_items, outputs_made}
 use Rattle.rx_tool.proofs.commands.run.evaluate.Goals as goal
 
 pub run_net-requires-clause-inputs : goal.run_net-requires-clause-inputs
@@ -34,3 +35,12 @@ returns-clause-file g c =
           c.requires.net c.requires.ciphers c.requires.may;
       spelled = c.in_ok-encode_cipher.ensures ∙ ap cipher_bytes made;
     }
+
+pub returns-clause-keeps : goal.returns-clause-keeps
+returns-clause-keeps g c =
+    let found = c.deref.ensures.value ∙ rw c.as_slice.ensures at c.in_ok-inputs.ensures in
+    keeps_run c.args.key.now c.args.net.now c.args.workers c.args.ciphers.now c.server_laws.ensures c.requires.net c.requires.ciphers c.requires.may
+    (subst (KeepsCells c.args.key.now c.args.net.now) found c.in_ok-report.ensures.cells_keep)
+
+pub returns-clause-keeps_items : goal.returns-clause-keeps_items
+returns-clause-keeps_items g c = keeps_items c.args.key.now c.args.net.now c.args.ciphers.now c.server_laws.ensures (returns-clause-keeps g c)

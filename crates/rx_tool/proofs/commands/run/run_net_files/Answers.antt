@@ -38,5 +38,5 @@ returns g c =
           c.deref.ensures.value c.in-Ok-read_ciphers.ensures ∙ c.in-Ok-check_values.ensures.0,
       run_does c.args.server.now c.args.net.now c.args.out.now c.args.workers c.args.inputs.now files c.as_slice.result.now c.as_slice-2.result.now rest c.in-Ok.key c.in-Ok-decode_net.legal ciphers
           c.deref-2.result.now c.in_ok-made.made.bytes.items c.in_ok-done.done.writes.items (string_bytes c.in_ok-lines.lines) parts c.in-Ok.ensures.found c.in-Ok-decode_net.ensures.found
-          c.in-Ok-read_ciphers.ensures.1.1 c.deref-2.ensures.value c.in_ok-made.ensures.file c.in_ok-done.ensures.writes (c.in_ok-lines.ensures ∙ ap jobs_line c.in_ok-made.ensures.jobs),
+          c.in-Ok-read_ciphers.ensures.1.1 c.deref-2.ensures.value c.in_ok-made.ensures.file c.in_ok-made.ensures.keeps c.in_ok-made.ensures.keeps_items c.in_ok-done.ensures.writes (c.in_ok-lines.ensures ∙ ap jobs_line c.in_ok-made.ensures.jobs),
     )

@@ -1,0 +1,19 @@
+// The law of the whole way, as a contract can name it.
+ghost use Rattle.rx_tool.specs.WholeWay.{WholeWayLaws};
+
+use rx_boot::server_key_laws;
+use rx_client::{encrypting_laws, reading_laws};
+use rx_crew::keeping_laws;
+use rx_server::server_laws;
+
+/// What a client encrypts, a server evaluates under the client's server key and the client decrypts, are the
+/// numbers that the net gives for the plain value lines; and no block is damaged.
+pub fn whole_way_laws()
+    ensures { WholeWayLaws }
+{
+    server_key_laws();
+    encrypting_laws();
+    keeping_laws();
+    server_laws();
+    reading_laws();
+}
