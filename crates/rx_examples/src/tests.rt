@@ -1,6 +1,9 @@
 use crate::balky::TooLongStore;
-use crate::files::{place_changed, place_longer, place_start, small_bits, widths};
-use crate::runs::{has_length, holds, no_files, printed, run, was_printed, word_at};
+use crate::texts::{small_bits, widths};
+use rx_examples_kit::{
+    first_wrong, has_length, holds, no_files, place_changed, place_longer, place_start, printed,
+    run, was_printed, word_at,
+};
 use rx_store::{MemSink, MemStore};
 use std::test::Fail;
 
@@ -54,11 +57,7 @@ fn sets_are_checked(rt: HostRuntime) -> Result<(), Fail> {
             "refused noise 290630635804950528 288230376151711744\n",
         ),
     ];
-    for (line, status, text) in cases {
-        let (answer, sink) = printed(&rt, line, &mut store)?;
-        assert_eq!(rt; answer, status, "{line}");
-        assert!(rt; was_printed(&sink, text), "{line}");
-    }
+    assert_eq!(rt; first_wrong(&rt, &mut store, &cases)?, None);
     let (answer, _sink) = printed(&rt, "check n26", &mut store)?;
     assert_eq!(rt; answer, 0);
     let (answer, _sink) = printed(&rt, "check rx-test", &mut store)?;
@@ -118,11 +117,7 @@ fn numbers_are_encrypted_and_read(rt: HostRuntime) -> Result<(), Fail> {
         ("encrypt v U Z v x", 5, "malformed v magic\n"),
         ("encrypt c U Z missing x", 3, ""),
     ];
-    for (line, status, text) in cases {
-        let (answer, sink) = printed(&rt, line, &mut store)?;
-        assert_eq!(rt; answer, status, "{line}");
-        assert!(rt; was_printed(&sink, text), "{line}");
-    }
+    assert_eq!(rt; first_wrong(&rt, &mut store, &cases)?, None);
     assert!(rt; store.get("x").is_none());
     Ok(())
 }

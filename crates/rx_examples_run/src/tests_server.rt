@@ -1,7 +1,9 @@
 // Server keys, through the whole program.
-use crate::files::{place_changed, place_longer, place_start};
 use crate::nets::GIVEN_BACK;
-use crate::runs::{has_length, no_files, printed, was_printed};
+use rx_examples_kit::{
+    first_wrong, has_length, no_files, place_changed, place_longer, place_start, printed,
+    was_printed,
+};
 use rx_store::MemStore;
 use std::test::Fail;
 
@@ -27,11 +29,7 @@ fn a_server_key_is_written(rt: HostRuntime) -> Result<(), Fail> {
         ("keygen c U", 2, "usage\n"),
         ("decrypt c s", 5, "malformed s magic\n"),
     ];
-    for (line, status, text) in cases {
-        let (answer, sink) = printed(&rt, line, &mut store)?;
-        assert_eq!(rt; answer, status, "{line}");
-        assert!(rt; was_printed(&sink, text), "{line}");
-    }
+    assert_eq!(rt; first_wrong(&rt, &mut store, &cases)?, None);
     assert!(rt; has_length(&store, "s", 241708));
     assert!(rt; store.get("t").is_none());
     Ok(())

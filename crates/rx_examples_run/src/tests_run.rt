@@ -1,20 +1,19 @@
 // Nets evaluated through the whole program.
-use crate::files::place_changed;
-use crate::nets::{GIVEN_BACK, empty_net, sum_net, wide_net};
-use crate::runs::{has_length, no_files, printed, was_printed};
+use crate::nets::{GIVEN_BACK, bare_net, given_net, sum_net};
+use rx_codec::encode_net;
+use rx_examples_kit::{first_wrong, has_length, no_files, place_changed, printed, was_printed};
 use rx_store::MemStore;
-use std::alloc::{AllocError, Global};
 use std::test::Fail;
 use std::thread::Threads;
 
 /// A store with a client and a server key of `rx-test`, some nets and some numbers under encryption.
-fn prepared<R: Threads + Sync + AllocGlobal>(rt: &R) -> Result<MemStore, AllocError> {
-    let alloc: Global = rt.alloc();
+fn prepared<R: Threads + Sync + AllocGlobal>(rt: &R) -> Result<MemStore, Fail> {
+    let alloc = rt.alloc();
     let mut store = no_files(alloc);
     store.insert("given", &GIVEN_BACK)?;
-    store.insert("sum", &sum_net(alloc)?)?;
-    store.insert("empty", &empty_net(alloc, 2)?)?;
-    store.insert("eight", &empty_net(alloc, 3)?)?;
+    store.insert("sum", &encode_net(alloc, &sum_net(alloc)?)?)?;
+    store.insert("empty", &encode_net(alloc, &bare_net(alloc, 2, 0)?)?)?;
+    store.insert("eight", &encode_net(alloc, &bare_net(alloc, 3, 0)?)?)?;
     store.insert("v", b"int a 2 3\n")?;
     store.insert("w", b"int a 4 7\n")?;
     store.insert("x", b"int b 4 6\nint c 8 1\n")?;
@@ -32,7 +31,20 @@ fn prepared<R: Threads + Sync + AllocGlobal>(rt: &R) -> Result<MemStore, AllocEr
     for line in lines {
         let _done = printed(rt, line, &mut store)?;
     }
+    // A number whose noise tag is 2, and a net that takes it.
+    place_changed(alloc, &mut store, "a2", "loud", 53, 2)?;
+    place_changed(alloc, &mut store, "given", "bearing", 12, 2)?;
     Ok(store)
+}
+
+#[test]
+fn a_net_has_one_file(rt: HostRuntime) -> Result<(), Fail> {
+    let net = given_net(rt.alloc())?;
+    assert_eq!(rt;
+        encode_net(rt.alloc(), &net)?.as_slice(),
+        GIVEN_BACK.as_slice()
+    );
+    Ok(())
 }
 
 #[test]
@@ -41,17 +53,15 @@ fn nets_are_evaluated(rt: HostRuntime) -> Result<(), Fail> {
     let cases = [
         ("run s given 1 o a2", 0, "jobs 0\n"),
         ("decrypt c o", 0, "a 3\n"),
+        ("run s bearing 1 o loud", 0, "jobs 0\n"),
+        ("decrypt c o", 0, "a 3\n"),
         ("run s empty 64 none", 0, "jobs 0\n"),
         ("run s sum 1 o a4 bc", 0, "jobs 4\n"),
         ("decrypt c o", 0, "s 13\nt 1\n"),
         ("run s sum 7 o bc a4", 0, "jobs 4\n"),
         ("decrypt c o", 0, "s 13\nt 1\n"),
     ];
-    for (line, status, text) in cases {
-        let (answer, sink) = printed(&rt, line, &mut store)?;
-        assert_eq!(rt; answer, status, "{line}");
-        assert!(rt; was_printed(&sink, text), "{line}");
-    }
+    assert_eq!(rt; first_wrong(&rt, &mut store, &cases)?, None);
     assert!(rt; has_length(&store, "none", 48));
     Ok(())
 }
@@ -83,14 +93,11 @@ fn what_does_not_fit_is_reported(rt: HostRuntime) -> Result<(), Fail> {
         ("run s sum 1 o a2 bc", 8, "inputs a form\n"),
         ("run s given 1 o bit", 8, "inputs a form\n"),
         ("run s quiet 1 o a2", 8, "inputs a degree 3 2\n"),
+        ("run s given 1 o loud", 8, "inputs a noise 2 1\n"),
         ("run s given 0 o a2", 10, "limit workers 0\n"),
         ("run s given 65 o a2", 10, "limit workers 65\n"),
     ];
-    for (line, status, text) in cases {
-        let (answer, sink) = printed(&rt, line, &mut store)?;
-        assert_eq!(rt; answer, status, "{line}");
-        assert!(rt; was_printed(&sink, text), "{line}");
-    }
+    assert_eq!(rt; first_wrong(&rt, &mut store, &cases)?, None);
     assert!(rt; store.get("o").is_none());
     Ok(())
 }
@@ -99,7 +106,7 @@ fn what_does_not_fit_is_reported(rt: HostRuntime) -> Result<(), Fail> {
 fn a_board_has_a_limit(rt: HostRuntime) -> Result<(), Fail> {
     let alloc = rt.alloc();
     let mut store = no_files(alloc);
-    store.insert("n", &wide_net(alloc, 65155)?)?;
+    store.insert("n", &encode_net(alloc, &bare_net(alloc, 2, 65155)?)?)?;
     assert_eq!(rt; printed(&rt, "client rx-2-2 Z c", &mut store)?.0, 0);
     assert_eq!(rt; printed(&rt, "keygen c U s", &mut store)?.0, 0);
     assert!(rt; has_length(&store, "s", 1400876));

@@ -1,13 +1,6 @@
-// Files that the examples read.
+// Files that are made of other files.
 use rx_store::MemStore;
 use std::alloc::{AllocError, Global};
-
-/// The parameter text of `rx-2-2` with another number of small key bits.
-pub fn small_bits(alloc: Global, count: u32) -> Result<String, AllocError> {
-    format!(in alloc;
-        "message_bits 2\nglwe_dim 1\npoly_size 512\nlwe_dim {count}\npbs_base_log 12\npbs_level 2\nks_base_log 4\nks_level 6\nglwe_bound 17\nlwe_bound 20\n"
-    )
-}
 
 /// Places a copy of a file under another name, with one byte changed; or cut by one byte where the place
 /// is past its end.
@@ -59,27 +52,4 @@ pub fn place_start(
         bytes.extend_from_slice(&held[..size.min(held.len())])?;
     }
     store.insert(to, &bytes)
-}
-
-/// A line for each width that blocks of `step` bits make up, and then the bits 1 and 0: with the word `int` the
-/// lines of a value file, without it the lines that it is decrypted to. A number's bits are 1, 0, 1, 0 and so on.
-pub fn widths(alloc: Global, step: u32, before: &str, between: &str) -> Result<String, AllocError> {
-    let mut lines = String::new(alloc);
-    for blocks in 1..33u32 {
-        let bits = blocks.saturating_mul(step);
-        if 0 < bits && bits <= 64 {
-            let number = 0x5555_5555_5555_5555u64 >> (64 - bits);
-            if between.is_empty() {
-                write!(lines, "{before}{bits} {number}\n")?;
-            } else {
-                write!(lines, "{before}{bits}{between}{bits} {number}\n")?;
-            }
-        }
-    }
-    if between.is_empty() {
-        lines.push_str("yes 1\nno 0\n")?;
-    } else {
-        lines.push_str("bit yes 1 1\nbit no 1 0\n")?;
-    }
-    Ok(lines)
 }

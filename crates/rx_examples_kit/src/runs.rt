@@ -46,6 +46,23 @@ pub fn printed<R: Threads + Sync + AllocGlobal>(
     Ok((status, sink))
 }
 
+/// The first line whose status or printed text is not the one beside it, with what it gave in their place. The lines
+/// are run in order, up to that one.
+pub fn first_wrong<R: Threads + Sync + AllocGlobal>(
+    rt: &R,
+    store: &mut MemStore,
+    cases: &[(&str, u8, &str)],
+) -> Result<Option<String>, AllocError> {
+    for (line, status, text) in cases {
+        let (answer, sink) = printed(rt, line, store)?;
+        if answer != *status || !was_printed(&sink, text) {
+            let given = str::from_utf8(sink.bytes()).unwrap_or("");
+            return Ok(Some(format!(in rt.alloc(); "{line}: {answer} {given}")?));
+        }
+    }
+    Ok(None)
+}
+
 /// A store with no files in which no call fails.
 pub fn no_files(alloc: Global) -> MemStore {
     MemStore::new(alloc, Vec::new(alloc))

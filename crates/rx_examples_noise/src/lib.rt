@@ -1,0 +1,9 @@
+//! Worked examples of lookups, with keys as they are made and with keys whose noises lie at their bounds.
+#![tactic(auto)]
+
+#[cfg(test)]
+mod extremes;
+#[cfg(test)]
+mod tests_lookups;
+#[cfg(test)]
+mod tests_noise;
