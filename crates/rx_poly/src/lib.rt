@@ -1,5 +1,6 @@
 //! Kernels on polynomials modulo `X^N + 1` whose coefficients are words, modulo 2^64. A polynomial is a
-//! slice of its N coefficients, the coefficient of 1 first. Nothing here takes memory.
+//! slice of its N coefficients, the coefficient of 1 first. Nothing here takes memory. Sources are named as in
+//! docs/DEFINITIONS.md.
 #![tactic(auto)]
 
 mod boxes;

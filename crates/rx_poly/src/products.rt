@@ -1,5 +1,5 @@
-// Products of polynomials. A product adds a multiple of `X^j` times one polynomial for each coefficient j of
-// the other, and all those powers lie side by side in one list of 2N words.
+//! Products of polynomials (CJP, the ring). A product adds a multiple of `X^j` times one polynomial for each
+//! coefficient j of the other, and all those powers lie side by side in one list of 2N words.
 ghost use Rattle.std.specs.Prelude.{◌≡◌, ◌+ℤ◌, ◌*◌, ◌<◌, ◌≤◌, length, slice_index, EachIndex};
 ghost use Rattle.rx_laws.specs.Words.{AreWords, of_words, of_numbers};
 ghost use Rattle.rx_ring.specs.Polynomial.{product};
@@ -8,7 +8,7 @@ ghost use Rattle.rx_poly.specs.Turns.{HoldsTurns};
 use crate::sums::{add_assign, add_terms};
 
 /// Adds the product of `small` and `big` to `acc`, all of one length N, modulo 2^64. `scratch` has at least
-/// 2N places; what it holds afterwards is not told.
+/// 2N words; what it holds is not read, and what it holds afterwards is not told.
 pub fn product_add(acc: &mut [u64], small: &[i64], big: &[u64], scratch: &mut [u64])
     requires same_small { length small.now ≡ length acc.old }
     requires same_big { length big.now ≡ length acc.old }
@@ -33,7 +33,7 @@ pub fn product_add(acc: &mut [u64], small: &[i64], big: &[u64], scratch: &mut [u
 }
 
 /// Adds the product of `bits`, each 0 or 1, and `big` to `acc`, all of one length N, modulo 2^64. `scratch`
-/// has at least 2N places; what it holds afterwards is not told.
+/// has at least 2N words; what it holds is not read, and what it holds afterwards is not told.
 pub fn binary_product_add(acc: &mut [u64], bits: &[u64], big: &[u64], scratch: &mut [u64])
     requires same_bits { length bits.now ≡ length acc.old }
     requires same_big { length big.now ≡ length acc.old }

@@ -1,9 +1,9 @@
-// Sums of polynomials, and of their multiples.
+//! Sums of polynomials, and of their multiples.
 ghost use Rattle.std.specs.Prelude.{◌≡◌, pos, ◌+ℤ◌, ◌*ℤ◌, ◌+◌, ◌<◌, length};
 ghost use Rattle.rx_laws.specs.Words.{AreWords, of_words, of_numbers};
 ghost use Rattle.rx_poly.specs.Turns.{convolved};
 
-/// Adds `other` to `acc`, coefficient by coefficient, modulo 2^64.
+/// Adds `other` to `acc`, of the same length, coefficient by coefficient, modulo 2^64.
 pub fn add_assign(acc: &mut [u64], other: &[u64])
     requires { length other.now ≡ length acc.old }
     ensures { AreWords (length acc.old) (λ i. of_words acc.old i +ℤ of_words other.now i) acc.new }

@@ -1,4 +1,4 @@
-// Worked values of the kernels.
+//! Worked values of the kernels.
 use crate::{
     accumulator, add_assign, binary_product_add, product_add, rotate_into, turn_away_into,
 };

@@ -1,19 +1,19 @@
 //! Polynomials modulo `X^n + 1`, ciphertexts over them and the blind rotation, over whole numbers. The
-//! definitions stand in `specs/`. The code here only states their laws: each function has an empty body,
-//! and its contract is the law.
+//! definitions stand in `specs/`. The code here only states their laws, which are the steps of
+//! docs/NOISE.md, The proof: each function has an empty body, and its contract is the law.
 #![tactic(auto)]
 
 ghost use Rattle.rx_ring.specs.Laws.{ProductLaws, GlweLaws, ExtractionLaws, ExternalProductLaws, TurnLaws};
 ghost use Rattle.rx_ring.specs.BootstrapLaws.{CombinationLaws, KeySwitchLaws, ModulusSwitchLaws, AccumulatorLaws, BootstrapLaws};
 
-/// The product of polynomials is linear in each argument, commutative and associative, and a turn passes
-/// through it.
+/// The product of polynomials of n coefficients is linear in each argument, commutative and associative,
+/// and a turn passes through it.
 pub fn product_laws()
     ensures { ProductLaws }
 {}
 
-/// A ciphertext that hides a polynomial has that polynomial, and its noise, as its phase, and rows of such
-/// ciphertexts encrypt a bit.
+/// A ciphertext that hides a polynomial has that polynomial, and its noise, as its phase, coefficient by
+/// coefficient, and rows of such ciphertexts encrypt a bit, within a bound of all their noises.
 pub fn glwe_laws()
     ensures { GlweLaws }
 {}
@@ -23,39 +23,45 @@ pub fn extraction_laws()
     ensures { ExtractionLaws }
 {}
 
-/// The external product with an encrypted bit has a phase near the bit times the phase.
+/// The external product with an encrypted bit has a phase within `external_bound` of the bit times the
+/// phase. The digits of a word are at most `2^(base_log - 1)` in size, and what they stand for is within
+/// `2^(63 - base_log * levels)` of the word.
 pub fn external_product_laws()
     ensures { ExternalProductLaws }
 {}
 
-/// A turn by an encrypted bit turns the phase by its amount where the bit is 1, and all turns together turn
-/// it by what the bits have chosen.
+/// A turn by an encrypted bit turns the phase by its amount where the bit is 1, within `turn_bound`, and all
+/// d turns together turn it by what the bits have chosen, within d times that.
 pub fn turn_laws()
     ensures { TurnLaws }
 {}
 
-/// A weighted sum of ciphertexts is near the weighted sum of what they stand for.
+/// A weighted sum of ciphertexts is near the weighted sum of what they stand for: each noise counts as often
+/// as the size of its weight says.
 pub fn combination_laws()
     ensures { CombinationLaws }
 {}
 
-/// A ciphertext that is switched to another key has nearly the same phase there.
+/// A ciphertext that is switched to another key has the same phase there, within `switch_bound`.
 pub fn key_switch_laws()
     ensures { KeySwitchLaws }
 {}
 
-/// The marks of a ciphertext have a phase near that of its words.
+/// A mark is at most half the distance of two marks from its word, and the phase of the marks of d + 1 words
+/// at most d + 1 times as far from the phase of the words.
 pub fn modulus_switch_laws()
     ensures { ModulusSwitchLaws }
 {}
 
-/// An accumulator that is turned back by a step of one of its boxes begins with the entry of that box.
+/// An accumulator that is turned back by a step of one of its boxes begins with the entry of that box, the
+/// half box below step 0 included.
 pub fn accumulator_laws()
     ensures { AccumulatorLaws }
 {}
 
 /// The bootstrap of a ciphertext whose phase is near a number gives one whose phase is near that number's
-/// entry in the table, with a noise that does not depend on the first.
+/// entry in the table, with a noise that does not depend on the first: `turn_bound` for each bit of the
+/// small key.
 pub fn bootstrap_laws()
     ensures { BootstrapLaws }
 {}

@@ -1,13 +1,14 @@
-// What the streams of random words are drawn for.
+//! What the streams of random words are drawn for (docs/FORMATS.md, Random streams).
 ghost use Rattle.std.specs.Prelude.{◌≡◌};
 ghost use Rattle.rx_torus.specs.Kinds.{stream_number};
 
-/// What a stream is drawn for, and under which seed.
+/// What a stream is drawn for, and under which seed. Each row of a kind, by its number from 0, has a stream
+/// of its own.
 #[derive(Clone, Copy, Debug, PartialEq, Eq)]
 pub enum StreamKind {
-    /// Bits of the small key, under the client's seed.
+    /// Bits of the small key, under the client's seed. It has row 0 alone.
     SmallKey,
-    /// Bits of one polynomial of the large key, under the client's seed.
+    /// Bits of one polynomial of the large key, under the client's seed. The row is the polynomial.
     LargeKey,
     /// Masks of one bootstrapping row, under the mask seed of the key.
     BootMask,
@@ -17,16 +18,17 @@ pub enum StreamKind {
     SwitchMask,
     /// The noise of one row of the key switch, under the client's seed.
     SwitchNoise,
-    /// Masks of one fresh block, under the mask seed of the encryption.
+    /// Masks of one fresh block, under the mask seed of the encryption. The row is the block's number in
+    /// its file.
     BlockMask,
-    /// The noise of one fresh block, under the noise seed of the encryption.
+    /// The noise of one fresh block, under the noise seed of the encryption. The row is the same.
     BlockNoise,
 }
 
 impl StreamKind {
     ghost use Rattle.rx_torus.specs.Kinds.{stream_number};
 
-    /// The number of the stream of a row.
+    /// The number of the stream of a row: the kind, from 1 to 8 in the order above, times 2^32, and the row.
     pub fn stream_number(self, row: u32) -> u64
         ensures { result ≡ stream_number self row }
     {

@@ -1,4 +1,5 @@
-//! Words of the torus, and the random streams that they are drawn from.
+//! Words of the torus: their distance, rounding and signed digits, lists of them, and the random streams
+//! that they are drawn from. Sources are named as in docs/DEFINITIONS.md.
 #![tactic(auto)]
 
 mod kind;

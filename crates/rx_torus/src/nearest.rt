@@ -1,4 +1,4 @@
-// The distance of a word on the torus, and the nearest multiple of a power of two.
+//! The distance of a word on the torus (CJP, torus), and the nearest multiple of a power of two.
 ghost use Rattle.std.specs.Prelude.{◌≡◌, ◌-◌, ◌^◌, ◌≤◌, pos, min};
 ghost use Rattle.rx_laws.specs.Torus.{distance};
 ghost use Rattle.rx_laws.specs.Digits.{rounded};

@@ -1,4 +1,4 @@
-// The signed digits of a word.
+//! The signed digits of a word (CJP, gadget decomposition).
 ghost use Rattle.std.specs.Prelude.{◌≡◌, ℤ, pos, neg_ℤ, ◌+ℤ◌, ◌*ℤ◌, ◌≤ℤ◌, ◌<ℤ◌, ◌-◌, ◌*◌, ◌^◌, ◌≤◌, length};
 ghost use Rattle.rx_laws.specs.Digits.{IsDigits};
 
@@ -21,9 +21,10 @@ fn split_digit(rest: u64, base_log: u32) -> (i64, u64)
     }
 }
 
-/// Writes the signed digits of a word, the highest first. Of `levels` digits of `base_log` bits, from 1 to
-/// 24, each lies from `-2^(base_log - 1)` to `2^(base_log - 1) - 1`, and together they stand for the word,
-/// rounded to `base_log * levels` bits, at most 60. The carry out of the first digit is dropped.
+/// Writes the signed digits of a word into `out`, which has `levels` places, the highest first. Of `levels`
+/// digits of `base_log` bits, from 1 to 24, each lies from `-2^(base_log - 1)` to `2^(base_log - 1) - 1`, and
+/// together they stand for the word, rounded to `base_log * levels` bits, at most 60. The carry out of the
+/// first digit is dropped.
 pub fn digits(word: u64, base_log: u32, levels: u32, out: &mut [i64])
     requires base_low { 1 ≤ base_log }
     requires base_high { base_log ≤ 24 }

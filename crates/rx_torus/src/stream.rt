@@ -1,4 +1,4 @@
-// A stream of random torus words.
+//! A stream of random torus words (docs/FORMATS.md, Random streams).
 ghost use Rattle.std.specs.Prelude.{◌≡◌, ◌+◌, ◌*◌, ◌%◌, ◌^◌, ◌<◌, ◌≤◌};
 ghost use Rattle.rx_torus.specs.Streams.{stream_of, draw, drawn_by, uniform};
 
@@ -9,7 +9,8 @@ use std::marker::Model;
 
 const HALF: u64 = 0x1_0000_0000;
 
-/// The torus words of a seed and a stream number, in order.
+/// The torus words of a seed and a stream number, in order. Contracts see the words of the key, the number
+/// and the place of the next torus word; after 2^67 of them the stream begins again.
 #[derive(Drop)]
 pub struct Stream {
     words: ChaCha20Rng,
@@ -36,7 +37,7 @@ impl Stream {
         Stream { words }
     }
 
-    /// The next torus word.
+    /// The next torus word: the next two 32-bit words of ChaCha20, the low half first.
     #[tactic(auto, unfolding(crate::specs::Streams::torus_at))]
     pub fn next_torus(&mut self) -> u64
         ensures word { result ≡ draw self.old 0 }
@@ -47,7 +48,7 @@ impl Stream {
         u64::from(low) + HALF * u64::from(high)
     }
 
-    /// The lowest bit of the next torus word.
+    /// The lowest bit of the next torus word, 0 or 1.
     pub fn next_bit(&mut self) -> u64
         ensures bit { result ≡ draw self.old 0 % 2 }
         ensures after { self.new ≡ drawn_by 1 self.old }
@@ -56,7 +57,7 @@ impl Stream {
     }
 
     /// A number from `-2^b` to `2^b` by the next torus word, the two ends with half the weight of the
-    /// others.
+    /// others (TFHE-rs handbook, TUniform), for b of at most 40.
     #[tactic(auto, unfolding(crate::specs::Streams::uniform))]
     pub fn tuniform(&mut self, b: u32) -> i64
         requires { b ≤ 40 }

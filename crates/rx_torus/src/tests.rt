@@ -1,4 +1,4 @@
-// Values from outside: the published ChaCha20 words of an all-zero key, and worked rows.
+//! Values from outside: the published ChaCha20 words of an all-zero key, and worked rows.
 use crate::{Stream, StreamKind, Words, digits, distance, round_to};
 
 const ZERO_SEED: [u8; 32] = [0; 32];

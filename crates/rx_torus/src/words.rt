@@ -1,4 +1,4 @@
-// Lists of torus words, which contracts see as lists.
+//! Lists of torus words, which contracts see as lists.
 ghost use Rattle.std.specs.Prelude.{◌≡◌};
 ghost use Rattle.std.specs.Borrow.{Lends, Array, sem, u64 as word_type};
 ghost use Rattle.rx_torus.specs.contracts.words.Words.{the_row};
@@ -6,7 +6,7 @@ ghost use Rattle.rx_torus.specs.Overwritten.{overwritten};
 
 use std::marker::Model;
 
-/// Words of a ciphertext or of a key.
+/// Words of 64 bits of a ciphertext or of a key, any number of them.
 #[derive(Debug, Drop)]
 pub struct Words {
     words: Vec<u64>,
