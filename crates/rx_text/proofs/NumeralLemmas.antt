@@ -70,7 +70,7 @@ one_spelling text n lt h =
 
 -- ---- words
 
-lacks_all : (p : ℕ → Bool) (c : ℕ) → p c ≡ false → (xs : List ℕ) → list_all p xs ≡ true → Lacks c xs
+pub lacks_all : (p : ℕ → Bool) (c : ℕ) → p c ≡ false → (xs : List ℕ) → list_all p xs ≡ true → Lacks c xs
 lacks_all p c none [] h = tt
 lacks_all p c none (x ∷ xs) h =
     let parts = and_parts (p x) (list_all p xs) h in

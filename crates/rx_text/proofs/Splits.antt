@@ -84,6 +84,11 @@ spaceless (w ∷ words) h = (h.0.0, spaceless words h.1)
 pub first_line : (words : List (List ℕ)) (rest : List ℕ) → AllByRecursion IsWord words → parts_of (line_of words ++ rest) ≡ join_with_byte 32 words ∷ parts_of rest
 first_line words rest h = ap parts_of (append_assoc (join_with_byte 32 words) (10 ∷ []) rest) ∙ cut_behind 10 (join_with_byte 32 words) rest (Lacks-line words h)
 
+-- a line and the text after it, each as it is known
+pub line_text : (part words text more : List ℕ) → part ≡ words → text ≡ more → part ++ 10 ∷ text ≡ (words ++ 10 ∷ []) ++ more
+line_text part words text more h k =
+    ap (λ (line : List ℕ). line ++ 10 ∷ text) h ∙ ap (λ (rest : List ℕ). words ++ 10 ∷ rest) k ∙ sym (append_assoc words (10 ∷ []) more)
+
 pub words_back : (words : List (List ℕ)) → 0 < length words → AllByRecursion IsWord words → words_of (join_with_byte 32 words) ≡ words
 words_back words some h = joined 32 words some (spaceless words h)
 

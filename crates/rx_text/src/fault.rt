@@ -1,4 +1,4 @@
-// What is wrong with a line of a text.
+//! What is wrong with a line of a text.
 
 /// Why a line is wrong. The causes of a line are tried in this order.
 #[derive(Clone, Copy, Debug, PartialEq, Eq)]
@@ -20,6 +20,8 @@ pub enum LineCause {
 /// The first line of a text that is wrong, counted from 1, and why.
 #[derive(Clone, Copy, Debug, PartialEq, Eq)]
 pub struct LineFault {
+    /// From 1; where a line is missing, the number that it would have.
     pub line: u32,
+    /// The first cause that the line has.
     pub cause: LineCause,
 }

@@ -1,4 +1,4 @@
-//! What text files share: lines, words, numerals, names, and the faults of a line.
+//! What text files share (docs/FORMATS.md, Texts): lines, words, numerals, names, and the faults of a line.
 #![tactic(auto)]
 
 mod fault;

@@ -1,4 +1,4 @@
-// The lines of a text and the words of a line.
+//! The lines of a text and the words of a line.
 ghost use Rattle.std.specs.Prelude.{◌≡◌, ◌==◌, ◌<◌, ◌↔◌, [], ◌∷◌, IsTrue, IsSome, IfSome, IfNone, length, option_map, position};
 ghost use Rattle.std.specs.List.{slice_split};
 ghost use Rattle.std.specs.Option.{option_map_or};
@@ -30,7 +30,8 @@ impl<'a> Lines<'a> {
         Lines { rest: text }
     }
 
-    /// What stands up to the next line feed. None where there is no line feed any more, and then nothing changes.
+    /// The bytes up to the next line feed, which is passed over. None where there is no line feed any more, and then
+    /// nothing changes.
     pub fn next_line(&mut self) -> Option<&'a [u8]>
         ensures line { IfSome result (λ line. self.old ≡ line.now ∷ self.new) }
         ensures left { IfSome result (λ _. 0 < length self.new) }
@@ -49,14 +50,14 @@ impl<'a> Lines<'a> {
     }
 }
 
-/// The first word of a line, and what follows the space after it, if there is one.
+/// The first word of a line, which may be empty, and what follows the space after it, None where there is no space.
 pub fn first_word(line: &[u8]) -> (&[u8], Option<&[u8]>)
     ensures { words_of line.now ≡ result.0.now ∷ option_map_or (λ rest. words_of rest.now) result.1 [] }
 {
     cut(line, b' ')
 }
 
-/// The words of a line of two words.
+/// The words of a line of two words, None where it has fewer or more.
 pub fn two_words(line: &[u8]) -> Option<(&[u8], &[u8])>
     ensures { option_map (λ w. (w.0.now, w.1.now)) result ≡ two_of (words_of line.now) }
 {
@@ -68,7 +69,7 @@ pub fn two_words(line: &[u8]) -> Option<(&[u8], &[u8])>
     }
 }
 
-/// The words of a line of four words.
+/// The words of a line of four words, None where it has fewer or more.
 pub fn four_words(line: &[u8]) -> Option<(&[u8], &[u8], &[u8], &[u8])>
     ensures { option_map (λ w. (w.0.now, w.1.now, w.2.now, w.3.now)) result ≡ four_of (words_of line.now) }
 {

@@ -1,11 +1,12 @@
-// A name, held in a fixed array.
+//! A name, held in a fixed array.
 ghost use Rattle.std.specs.Prelude.{◌≡◌, ◌↔◌, ◌≤◌, IsTrue, length};
 ghost use Rattle.std.specs.List.{list_all};
 ghost use Rattle.rx_text.specs.Names.{is_letter, is_name_byte, is_name, name_of};
 
 use std::marker::Model;
 
-/// A name of 1 to 32 bytes. The bytes past its length are 0.
+/// A name of 1 to 32 bytes: a letter from `a` to `z`, and then such letters, digits or `_`. The bytes past its length
+/// are 0.
 #[derive(Clone, Copy, Debug)]
 pub struct Name {
     bytes: [u8; 32],
@@ -56,7 +57,7 @@ impl Eq for Name {
 }
 
 impl Name {
-    /// None exactly where the text is no name.
+    /// The name that a text is. None exactly where the text is no name.
     pub fn of(text: &[u8]) -> Option<Name>
         ensures { result ≡ name_of text.now }
     {

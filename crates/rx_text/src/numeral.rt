@@ -1,4 +1,4 @@
-// Numerals: decimal digits without a leading zero.
+//! Numerals: decimal digits without a leading zero.
 ghost use Rattle.std.specs.Prelude.{◌≡◌, ℕ, ◌^◌, Some, option_map};
 ghost use Rattle.std.specs.Char.{is_ascii_digit};
 ghost use Rattle.std.specs.List.{list_all};
@@ -16,7 +16,8 @@ pub enum Numeral {
 }
 
 impl Numeral {
-    /// None exactly where the text is no numeral.
+    /// The number of a numeral: `0`, or decimal digits of which the first is not `0`. None exactly where the text is no
+    /// numeral.
     pub fn of(text: &[u8]) -> Option<Numeral>
         ensures { result ≡ option_map held (numeral_of text.now) }
     {
@@ -32,7 +33,7 @@ impl Numeral {
         })
     }
 
-    /// The number, where it is below the end, else `Number`.
+    /// The number, where it is below the end, else the error `Number`.
     pub fn below(self, end: u64) -> Result<u64, LineCause>
         ensures { (n : ℕ) → self ≡ held n → result ≡ numeral_cases end (Some n) }
     {
@@ -43,7 +44,8 @@ impl Numeral {
     }
 }
 
-/// The number of a numeral that is below the end: `Form` where the text is no numeral, `Number` where it is too large.
+/// The number of a numeral that is below the end. The error is `Form` where the text is no numeral, and `Number` where
+/// the number is the end or more.
 pub fn number_below(text: &[u8], end: u64) -> Result<u64, LineCause>
     ensures { result ≡ numeral_below end text.now }
 {

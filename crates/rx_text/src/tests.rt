@@ -1,4 +1,4 @@
-// Texts whose lines, words, numerals and names are known.
+//! Texts whose lines, words, numerals and names are known.
 use super::*;
 
 #[test]
