@@ -1,12 +1,14 @@
 -- A set is accepted exactly where nothing refuses it, and what refuses it where it is not.
 use Rattle.std.proofs.Common.{lit≤, ℕ, ◌≡◌, ◌<◌, ◌≤◌, ◌+◌, ◌*◌, ◌^◌, ◌⊎◌, ◌↔◌, ◌==◌, nat_le, nat_lt, ◌&&◌, ◌||◌, Bool, true, false, List, ◌∷◌, drop, Option, Some, None, Ok, Err, if◌then◌else◌, refl, ◌∙◌, ap, inl, inr, arith}
 use Rattle.std.proofs.lemmas.Bool.Decides.{nat_tests}
+use Rattle.std.specs.Option.{option_or}
 use Rattle.rx_laws.specs.Decode.{plaintexts}
 use Rattle.rx_params.specs.declared.params.Params.{Params}
+use Rattle.rx_params.specs.declared.bounds.Bounds.{Bounds}
 use Rattle.rx_params.specs.declared.bounds.Refused.{Refused}
 use Rattle.rx_params.specs.declared.bounds.Refused.TheVariants.{Limit, NarrowBox, Noise}
 use Rattle.rx_params.specs.Derived.{key_words, left_of, right_of, bounds_of}
-use Rattle.rx_params.specs.Acceptance.{IsWithin, FieldsInRange, Accepts, is_within, is_poly_size, limited, first_outside, first_of, box_refusal, noise_refusal, refusal_of, answered, checked}
+use Rattle.rx_params.specs.Acceptance.{IsWithin, FieldsInRange, Accepts, is_within, is_poly_size, limited, first_outside, box_refusal, noise_refusal, refusal_of, answered, checked}
 
 -- the test of each field passes
 pub record FieldsPass (p : Params) : Type 0 where
@@ -21,10 +23,10 @@ pub record FieldsPass (p : Params) : Type 0 where
   pub glwe_bound : nat_le p.glwe_bound 40 ≡ true
   pub lwe_bound : nat_le p.lwe_bound 40 ≡ true
 
-two_or_three : (n : ℕ) → (n ≡ 2) ⊎ (n ≡ 3) → ((n == 2) || (n == 3)) ≡ true
+pub two_or_three : (n : ℕ) → (n ≡ 2) ⊎ (n ≡ 3) → ((n == 2) || (n == 3)) ≡ true
 two_or_three n h = grind (arith, nat_tests)
 
-two_or_three-is : (n : ℕ) → ((n == 2) || (n == 3)) ≡ true → (n ≡ 2) ⊎ (n ≡ 3)
+pub two_or_three-is : (n : ℕ) → ((n == 2) || (n == 3)) ≡ true → (n ≡ 2) ⊎ (n ≡ 3)
 two_or_three-is n h = grind (arith, nat_tests)
 
 within : (low high n : ℕ) → IsWithin low high n → is_within low high n ≡ true
@@ -173,7 +175,7 @@ unfolding refusal_of
 refused-lwe_bound p e1 e2 e3 e4 e5 e6 e7 e8 e9 e10 = rw (e1, e2, e3, e4, e5, e6, e7, e8, e9, e10) refl
 
 -- where all fields pass, the size of a key, the box and the noise decide
-passed : (p : Params) → FieldsPass p → refusal_of p ≡ first_of (if nat_le (key_words p) (2 ^ 24) then None else Some (Limit 11 (key_words p))) (first_of (box_refusal p) (noise_refusal p))
+passed : (p : Params) → FieldsPass p → refusal_of p ≡ option_or (if nat_le (key_words p) (2 ^ 24) then None else Some (Limit 11 (key_words p))) (option_or (box_refusal p) (noise_refusal p))
 unfolding refusal_of
 passed p f = rw (f.message_bits, f.glwe_dim, f.poly_size, f.lwe_dim, f.pbs_base_log, f.pbs_level, f.ks_base_log, f.ks_level, f.glwe_bound, f.lwe_bound) refl
 
@@ -213,7 +215,7 @@ none-sound : (field n : ℕ) (b : Bool) (numbers : List (ℕ × Bool)) → first
 none-sound field n true numbers e = (refl, e)
 none-sound field n false numbers e = cc
 
-none-first : (a b : Option Refused) → first_of a b ≡ None → (a ≡ None) × (b ≡ None)
+none-first : (a b : Option Refused) → option_or a b ≡ None → (a ≡ None) × (b ≡ None)
 none-first None b e = (refl, e)
 none-first (Some r) b e = cc
 
@@ -224,7 +226,7 @@ none-unless false r e = cc
 pub refusal_of-accepts : (p : Params) → refusal_of p ≡ None → Accepts p
 unfolding refusal_of
 refusal_of-accepts p h =
-    let o = none-first (first_outside 1 (limited p)) (first_of (box_refusal p) (noise_refusal p)) h in
+    let o = none-first (first_outside 1 (limited p)) (option_or (box_refusal p) (noise_refusal p)) h in
     let b = none-first (box_refusal p) (noise_refusal p) o.1 in
     let t1 = none-sound 1 p.message_bits ((p.message_bits == 2) || (p.message_bits == 3)) (drop 1 (limited p)) o.0 in
     let t2 = none-sound 2 p.glwe_dim (is_within 1 4 p.glwe_dim) (drop 2 (limited p)) t1.1 in
@@ -261,6 +263,13 @@ accepted-unrefused p = (refusal_of-accepts p, accepts-refusal_of p)
 
 pub checked-accepted : (p : Params) → Accepts p → checked p ≡ Ok (bounds_of p)
 checked-accepted p a = ap (λ r. answered r (bounds_of p)) (accepts-refusal_of p a)
+
+none-answered : (refusal : Option Refused) (bounds found : Bounds) → answered refusal bounds ≡ Ok found → refusal ≡ None
+none-answered None bounds found e = refl
+none-answered (Some refused) bounds found e = absurd cc
+
+pub checked-accepts : (p : Params) (bounds : Bounds) → checked p ≡ Ok bounds → Accepts p
+checked-accepts p bounds e = refusal_of-accepts p (none-answered (refusal_of p) (bounds_of p) bounds e)
 
 pub checked-refused : (p : Params) (refused : Refused) → refusal_of p ≡ Some refused → checked p ≡ Err refused
 checked-refused p refused e = ap (λ r. answered r (bounds_of p)) e

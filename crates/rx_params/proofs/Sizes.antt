@@ -1,8 +1,8 @@
 -- What follows from the limits of the fields on the sizes of numbers.
-use Rattle.std.proofs.Common.{ℕ, ◌≡◌, ◌≤◌, ◌*◌, ◌-◌, ◌/◌, ◌%◌, ◌^◌, ◌⊎◌, inl, inr, ap, sym, ◌∙◌, subst, arith, refl}
+use Rattle.std.proofs.Common.{ℕ, ◌≡◌, ◌≤◌, ◌*◌, ◌-◌, ◌/◌, ◌^◌, ◌⊎◌, inl, inr, ap, sym, ◌∙◌, subst, arith, refl}
 use Rattle.std.proofs.Math.Nat.{mul-le-mul, pow-suc, pow-zero}
 use Rattle.std.proofs.Math.Pow.{pow_mono}
-use Rattle.rx_laws.specs.Decode.{plaintexts, unit}
+use Rattle.rx_laws.specs.Decode.{unit}
 use Rattle.rx_params.specs.declared.params.Params.{Params}
 use Rattle.rx_params.specs.Acceptance.{FieldsInRange}
 
@@ -29,11 +29,6 @@ large_dim-high p f = mul-le-mul f.glwe_dim.1 (poly_size-high p f)
 pub half_unit : (m : ℕ) → (m ≡ 2) ⊎ (m ≡ 3) → 2 ^ (62 - 2 * m) ≡ unit m / 2
 half_unit m (inl e) = let P : ℕ → Type 0 = λ n. 2 ^ (62 - 2 * n) ≡ unit n / 2 in subst P (sym e) refl
 half_unit m (inr e) = let P : ℕ → Type 0 = λ n. 2 ^ (62 - 2 * n) ≡ unit n / 2 in subst P (sym e) refl
-
--- the number of plaintexts is a power of two, as the code shifts it
-pub plaintexts_shifted : (m : ℕ) → (m ≡ 2) ⊎ (m ≡ 3) → 1 * 2 ^ (2 * m) % 2 ^ 32 ≡ plaintexts m
-plaintexts_shifted m (inl e) = let P : ℕ → Type 0 = λ n. 1 * 2 ^ (2 * n) % 2 ^ 32 ≡ plaintexts n in subst P (sym e) refl
-plaintexts_shifted m (inr e) = let P : ℕ → Type 0 = λ n. 1 * 2 ^ (2 * n) % 2 ^ 32 ≡ plaintexts n in subst P (sym e) refl
 
 pub square : (n : ℕ) → n ^ 2 ≡ n * n
 square n =

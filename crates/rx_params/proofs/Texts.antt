@@ -1,9 +1,9 @@
 -- Parameter texts: what is read is spelled so, and what is spelled so is read.
-use Rattle.std.proofs.Common.{◌≡◌, ◌≢◌, ◌==◌, ◌<◌, ◌+◌, ◌^◌, ℕ, Bool, true, false, cond, not, ltb, List, [], ◌∷◌, ◌++◌, length, Option, Some, None, Result, Ok, Err, refl, sym, ap, subst, ◌∙◌, append_assoc, arith}
+use Rattle.std.proofs.Common.{◌≡◌, ◌==◌, ◌<◌, ◌+◌, ◌^◌, ℕ, Bool, true, false, cond, not, ltb, List, [], ◌∷◌, length, Option, Some, None, Result, Ok, Err, refl, sym, ap, subst, ◌∙◌, arith}
 use Rattle.std.specs.Prelude.{decimal, codes, zip, IfOk}
 use Rattle.std.specs.List.{flat_map, list_all, join_with_byte, AllByRecursion}
 use Rattle.std.specs.Str.{bytes_eq}
-use Rattle.std.proofs.lemmas.Bool.{and_parts, ltb-true, lt-ltb, eq-eqb}
+use Rattle.std.proofs.lemmas.Bool.{ltb-true, lt-ltb}
 use Rattle.std.proofs.lemmas.List.Splits.{length-slice_split}
 use Rattle.std.proofs.lemmas.Option.{same_Some}
 use Rattle.std.proofs.lemmas.Slice.Eq.{bytes_eq-Decides}
@@ -12,11 +12,13 @@ use Rattle.rx_text.specs.declared.fault.LineCause.TheVariants.{Form, Number}
 use Rattle.rx_text.specs.declared.fault.LineFault.{LineFault}
 use Rattle.rx_text.specs.Faults.{fault_at}
 use Rattle.rx_text.specs.Laws.{NumeralLaws, WordLaws, LineLaws}
-use Rattle.rx_text.specs.Lines.{parts_of, words_of, line_of, two_of, Lacks, IsWord}
+use Rattle.rx_text.specs.Lines.{parts_of, words_of, line_of, two_of, IsWord}
 use Rattle.rx_text.specs.Numerals.{numeral_of, numeral_cases, numeral_below}
+use Rattle.rx_text.proofs.NumeralLemmas.{lacks_all}
+use Rattle.rx_text.proofs.Splits.{line_text}
 use Rattle.rx_params.specs.declared.params.Params.{Params}
 use Rattle.rx_params.specs.Sets.{set_of}
-use Rattle.rx_params.specs.Text.{field_names, fields_of, field_value, before_values, end_of_text, values_from, as_set, params_from, HasText, ParamsText}
+use Rattle.rx_params.specs.Text.{field_names, fields_of, field_value, before_values, end_of_text, field_values_from, as_set, params_from, HasText, ParamsText}
 
 -- ---- the end of a text
 
@@ -89,22 +91,18 @@ end_found line ([] ∷ part ∷ parts) values h = absurd cc
 end_found line ((byte ∷ bytes) ∷ []) values h = absurd cc
 end_found line ((byte ∷ bytes) ∷ part ∷ parts) values h = absurd cc
 
-line_text : (part words text more : List ℕ) → part ≡ words → text ≡ more → part ++ 10 ∷ text ≡ (words ++ 10 ∷ []) ++ more
-line_text part words text more h k =
-    ap (λ (line : List ℕ). line ++ 10 ∷ text) h ∙ ap (λ (rest : List ℕ). words ++ 10 ∷ rest) k ∙ sym (append_assoc words (10 ∷ []) more)
-
 record AreSpelled (names parts : List (List ℕ)) (values : List ℕ) : Type 0 where
   small : AreSmall values
   text : join_with_byte 10 parts ≡ text_of names values
 
-fields_found : (numerals : NumeralLaws) (lines : LineLaws) (line : ℕ) (names parts : List (List ℕ)) (values : List ℕ) → values_from line names parts ≡ Ok values → AreSpelled names parts values
+fields_found : (numerals : NumeralLaws) (lines : LineLaws) (line : ℕ) (names parts : List (List ℕ)) (values : List ℕ) → field_values_from line names parts ≡ Ok values → AreSpelled names parts values
 fields_found numerals lines line [] parts values h =
     let end = end_found line parts values h in
     rw (end.0, end.1) (record { small = tt; text = refl })
 fields_found numerals lines line (name ∷ names) [] values h = absurd cc
 fields_found numerals lines line (name ∷ names) (last ∷ []) values h = absurd cc
 fields_found numerals lines line (name ∷ names) (part ∷ next ∷ parts) values h =
-    let found = before_found (field_value name (words_of part)) line (values_from (line + 1) names (next ∷ parts)) values h in
+    let found = before_found (field_value name (words_of part)) line (field_values_from (line + 1) names (next ∷ parts)) values h in
     let v = found.0 in
     let vs = found.1 in
     let one = field_found numerals name (words_of part) v found.2 in
@@ -117,12 +115,12 @@ fields_found numerals lines line (name ∷ names) (part ∷ next ∷ parts) valu
     subst (λ (us : List ℕ). AreSpelled (name ∷ names) (part ∷ next ∷ parts) us) found.4 all
 
 next_value : (line : ℕ) (name : List ℕ) (names : List (List ℕ)) (part : List ℕ) (rest : List (List ℕ)) → 0 < length rest
-    → values_from line (name ∷ names) (part ∷ rest) ≡ before_values (field_value name (words_of part)) line (values_from (line + 1) names rest)
+    → field_values_from line (name ∷ names) (part ∷ rest) ≡ before_values (field_value name (words_of part)) line (field_values_from (line + 1) names rest)
 next_value line name names part [] some = absurd (omega arith)
 next_value line name names part (next ∷ parts) some = refl
 
 fields_again : (numerals : NumeralLaws) (texts : WordLaws) (lines : LineLaws) (line : ℕ) (names : List (List ℕ)) (values : List ℕ)
-    → AllByRecursion IsWord names → AreSmall values → length names ≡ length values → values_from line names (parts_of (text_of names values)) ≡ Ok values
+    → AllByRecursion IsWord names → AreSmall values → length names ≡ length values → field_values_from line names (parts_of (text_of names values)) ≡ Ok values
 fields_again numerals texts lines line [] [] are small same = refl
 fields_again numerals texts lines line [] (v ∷ values) are small same = absurd (omega arith)
 fields_again numerals texts lines line (name ∷ names) [] are small same = absurd (omega arith)
@@ -135,19 +133,12 @@ fields_again numerals texts lines line (name ∷ names) (v ∷ values) are small
     let some : 0 < length rest = omega (arith, length-slice_split (λ b. b == 10) (text_of names values)) in
     let read : field_value name (words_of text) ≡ Ok v = ap (field_value name) (lines.words (name ∷ decimal v ∷ []) (omega arith) is_words) ∙ field_again numerals name v small.0 in
     let others = fields_again numerals texts lines (line + 1) names values are.1 small.1 (omega arith) in
-    ap (values_from line (name ∷ names)) cut ∙ next_value line name names text rest some ∙ rw (read, others) refl
+    ap (field_values_from line (name ∷ names)) cut ∙ next_value line name names text rest some ∙ rw (read, others) refl
 
 -- ---- the fields of a set
 
-lacks_test : (c : ℕ) (xs : List ℕ) → list_all (λ b. not (b == c)) xs ≡ true → Lacks c xs
-lacks_test c [] h = tt
-lacks_test c (x ∷ xs) h =
-    let parts = and_parts (not (x == c)) (list_all (λ b. not (b == c)) xs) h in
-    let apart : x ≢ c = λ e. let hit = eq-eqb x c e in let never : false ≡ true = rw hit at parts.0 in absurd cc in
-    (apart, lacks_test c xs parts.1)
-
 name_word : (name : List ℕ) → list_all (λ b. not (b == 32)) name ≡ true → list_all (λ b. not (b == 10)) name ≡ true → IsWord name
-name_word name h k = (lacks_test 32 name h, lacks_test 10 name k)
+name_word name h k = (lacks_all (λ b. not (b == 32)) 32 refl name h, lacks_all (λ b. not (b == 10)) 10 refl name k)
 
 names_are_words : AllByRecursion IsWord field_names
 names_are_words = (
@@ -214,14 +205,14 @@ fields_small p h = (h.message_bits, (h.glwe_dim, (h.poly_size, (h.lwe_dim, (h.pb
 set_spelled : (numerals : NumeralLaws) (lines : LineLaws) (bytes : List ℕ) (p : Params) → params_from bytes ≡ Ok p → ParamsText bytes p
 unfolding params_from
 set_spelled numerals lines bytes p h =
-    let values = set_found (values_from 1 field_names (parts_of bytes)) p h in
+    let values = set_found (field_values_from 1 field_names (parts_of bytes)) p h in
     let spelled = fields_found numerals lines 1 field_names (parts_of bytes) (fields_of p) values in
     record { fits = small_fields p spelled.small; spelled = sym (lines.whole_text bytes) ∙ spelled.text }
 
 pub set_again : (numerals : NumeralLaws) (texts : WordLaws) (lines : LineLaws) (bytes : List ℕ) (p : Params) → ParamsText bytes p → params_from bytes ≡ Ok p
 unfolding params_from
 set_again numerals texts lines bytes p text =
-    ap (λ (bs : List ℕ). as_set (values_from 1 field_names (parts_of bs))) text.spelled
+    ap (λ (bs : List ℕ). as_set (field_values_from 1 field_names (parts_of bs))) text.spelled
     ∙ ap as_set (fields_again numerals texts lines 1 field_names (fields_of p) names_are_words (fields_small p text.fits) refl)
 
 pub found_by : (numerals : NumeralLaws) (lines : LineLaws) (bytes : List ℕ) (r : Result Params LineFault) → r ≡ params_from bytes → IfOk r (λ p. ParamsText bytes p)

@@ -1,5 +1,6 @@
 -- Which sets are accepted, and the first reason where one is not.
 use Rattle.std.specs.Prelude.{ℕ, ◌+◌, ◌*◌, ◌^◌, ◌≡◌, ◌<◌, ◌≤◌, ◌⊎◌, ◌==◌, nat_le, nat_lt, ◌&&◌, ◌||◌, Bool, List, [], ◌∷◌, Option, Some, None, if◌then◌else◌, Result, Ok, Err}
+use Rattle.std.specs.Option.{option_or}
 use Rattle.rx_laws.specs.Decode.{plaintexts}
 use Rattle.rx_params.specs.declared.params.Params.{Params}
 use Rattle.rx_params.specs.declared.bounds.Bounds.{Bounds}
@@ -60,10 +61,6 @@ first_outside field [] = None
 first_outside field (number ∷ numbers) =
     if number.1 then first_outside (field + 1) numbers else Some (Limit field number.0)
 
-abbrev pub first_of : Option Refused → Option Refused → Option Refused
-first_of None second = second
-first_of (Some refused) second = Some refused
-
 abbrev pub box_refusal : Params → Option Refused
 box_refusal p =
     if nat_le (2 * plaintexts p.message_bits) p.poly_size then None
@@ -74,11 +71,12 @@ noise_refusal p = if nat_lt (left_of p) (right_of p) then None else Some (Noise 
 
 -- the first reason to refuse a set, none where it is accepted: a limit, then a narrow box, then the noise
 unfoldable pub refusal_of : Params → Option Refused
-refusal_of p = first_of (first_outside 1 (limited p)) (first_of (box_refusal p) (noise_refusal p))
+refusal_of p = option_or (first_outside 1 (limited p)) (option_or (box_refusal p) (noise_refusal p))
 
-abbrev pub answered : Option Refused → Bounds → Result Bounds Refused
-answered None bounds = Ok bounds
-answered (Some refused) bounds = Err refused
+-- the answer of a check: the first reason against a value, or else the value
+abbrev pub answered : {A E : Type 0} → Option E → A → Result A E
+answered None value = Ok value
+answered (Some reason) value = Err reason
 
 -- what the check of a set answers
 abbrev pub checked : Params → Result Bounds Refused

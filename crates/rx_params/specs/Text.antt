@@ -47,12 +47,12 @@ end_of_text line ([] ∷ []) = Ok []
 end_of_text line _ = Err (fault_at line Form)
 
 -- the values of the fields of these names, from what stands between the line feeds
-abbrev pub values_from : ℕ → List (List ℕ) → List (List ℕ) → Result (List ℕ) LineFault
-values_from line [] parts = end_of_text line parts
-values_from line (name ∷ names) [] = Err (fault_at line Form)
-values_from line (name ∷ names) (last ∷ []) = Err (fault_at line Form)
-values_from line (name ∷ names) (part ∷ next ∷ parts) =
-    before_values (field_value name (words_of part)) line (values_from (line + 1) names (next ∷ parts))
+abbrev pub field_values_from : ℕ → List (List ℕ) → List (List ℕ) → Result (List ℕ) LineFault
+field_values_from line [] parts = end_of_text line parts
+field_values_from line (name ∷ names) [] = Err (fault_at line Form)
+field_values_from line (name ∷ names) (last ∷ []) = Err (fault_at line Form)
+field_values_from line (name ∷ names) (part ∷ next ∷ parts) =
+    before_values (field_value name (words_of part)) line (field_values_from (line + 1) names (next ∷ parts))
 
 -- the set with these values
 abbrev pub as_set : Result (List ℕ) LineFault → Result Params LineFault
@@ -62,7 +62,7 @@ as_set (Err fault) = Err fault
 
 -- the set that a text spells, or the first line that is wrong
 unfoldable pub params_from : List ℕ → Result Params LineFault
-params_from bytes = as_set (values_from 1 field_names (parts_of bytes))
+params_from bytes = as_set (field_values_from 1 field_names (parts_of bytes))
 
 -- the fields have the range of a text
 pub record HasText (p : Params) : Type 0 where

@@ -1,10 +1,11 @@
-// The worst-case sums of a parameter set, and the check that it is accepted.
+//! The worst-case sums of a parameter set, and the check that it is accepted.
 ghost use Rattle.std.specs.Prelude.{◌≡◌, ◌↔◌, ℕ, ◌+◌, ◌*◌, ◌^◌, ◌<◌, ◌≤◌, ◌&&◌, IsOk, IfErr, IsTrue, Some, nat_le};
 ghost use Rattle.rx_params.specs.Derived.{key_words, left_of, right_of, bounds_of, large_dim, rest_of, step_of, boot_of, base_of, switch_of, round_of};
 ghost use Rattle.rx_params.specs.Acceptance.{Accepts, FieldsInRange, checked, refusal_of, is_within, is_poly_size};
 ghost use Rattle.rx_laws.specs.Decode.{plaintexts};
 
 use crate::Params;
+use crate::space::{noise_limit, plaintexts};
 use thiserror::Error;
 
 /// The worst-case sums of a set, in units of 2^-64 of the torus.
@@ -20,26 +21,28 @@ pub struct Bounds {
     pub switch: u128,
     /// The noise that the rounding before the rotation adds.
     pub round: u128,
-    /// The greatest noise that reaches the table.
+    /// The greatest noise that reaches the table of a bootstrap.
     pub left: u128,
-    /// What that noise has to stay below.
+    /// What that noise has to stay below: half a unit.
     pub right: u128,
 }
 
 /// Why a set is not accepted.
 #[derive(Clone, Copy, Debug, PartialEq, Eq, Error)]
 pub enum Refused {
-    /// A field, by its place from 1 to 10, or the number of key words as field 11, is outside its limit.
+    /// A field, by its place from 1 to 10, or the number of words of a server key as field 11, is outside its
+    /// limit with this value.
     #[error("field {field} is outside its limit with {value}")]
     Limit { field: u32, value: u64 },
-    /// The polynomials have fewer than two coefficients for each of the `p` numbers of a block.
+    /// The polynomials have `n` coefficients, fewer than two for each of the `p` numbers of a block.
     #[error("{n} coefficients are too few for {p} numbers")]
     NarrowBox { n: u32, p: u32 },
-    /// The greatest noise is not below its limit.
+    /// The greatest noise is not below its limit, both in the units of `Bounds`.
     #[error("the noise {left} is not below {right}")]
     Noise { left: u128, right: u128 },
 }
 
+/// The most words of a server key: 2^24.
 const MOST_KEY_WORDS: u64 = 0x100_0000;
 
 /// The worst-case sums of a set that is accepted, or the first reason why it is not: a limit, the fields in
@@ -167,7 +170,7 @@ fn check_box(p: &Params) -> Result<(), Refused>
     ensures wide { IsOk result ↔ (2 * plaintexts p.now.message_bits ≤ p.now.poly_size) }
     ensures narrow { IfErr result (λ refused. refusal_of p.now ≡ Some refused) }
 {
-    let numbers = 1u32 << (2 * p.message_bits);
+    let numbers = u32::from(plaintexts(p.message_bits));
     if 2 * numbers <= p.poly_size {
         Ok(())
     } else {
@@ -194,18 +197,9 @@ fn sums(p: &Params) -> Bounds
         base,
         switch,
         round,
-        left: noise_limit(p) * base + switch + round,
+        left: u128::from(noise_limit(p.message_bits)) * base + switch + round,
         right: two_to(62 - 2 * p.message_bits),
     }
-}
-
-/// The greatest sum of noise tags that a lookup may be given.
-fn noise_limit(p: &Params) -> u128
-    requires { FieldsInRange p.now }
-    ensures value { result ≡ 2 ^ p.now.message_bits + 1 }
-    ensures bound { result ≤ 9 }
-{
-    two_to(p.message_bits) + 1
 }
 
 /// The noise that one turn of the bootstrap adds.
@@ -217,7 +211,8 @@ fn step(p: &Params) -> u128
     let rest = two_to(63 - p.pbs_base_log * p.pbs_level);
     let products = u128::from((p.glwe_dim + 1) * p.pbs_level * p.poly_size);
     let product = two_to(p.pbs_base_log - 1 + p.glwe_bound);
-    rest * (1 + large_dim(p)) + products * product
+    let words = u128::from(1 + p.large_dim());
+    rest * words + products * product
 }
 
 /// The noise that the key switch adds.
@@ -229,7 +224,8 @@ fn switch(p: &Params) -> u128
     let rest = two_to(63 - p.ks_base_log * p.ks_level);
     let products = u128::from(p.glwe_dim * p.poly_size * p.ks_level);
     let product = two_to(p.ks_base_log - 1 + p.lwe_bound);
-    large_dim(p) * rest + products * product
+    let words = u128::from(p.large_dim());
+    words * rest + products * product
 }
 
 /// The noise that the rounding before the rotation adds.
@@ -239,16 +235,6 @@ fn round(p: &Params) -> u128
     ensures bound { result ≤ 2 ^ 73 }
 {
     u128::from(p.lwe_dim + 1) * (two_to(62) / u128::from(p.poly_size))
-}
-
-/// The dimension of blocks.
-#[tactic(auto, unfolding(crate::specs::Derived::large_dim))]
-fn large_dim(p: &Params) -> u128
-    requires { FieldsInRange p.now }
-    ensures value { result ≡ large_dim p.now }
-    ensures bound { result ≤ 2 ^ 14 }
-{
-    u128::from(p.glwe_dim * p.poly_size)
 }
 
 fn two_to(exponent: u32) -> u128

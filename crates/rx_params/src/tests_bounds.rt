@@ -1,4 +1,4 @@
-// The limits of the fields at their edges, and worked sums.
+//! The limits of the fields at their edges, and worked sums.
 use crate::{Bounds, Params, Refused, check, named};
 
 fn set(fields: [u32; 10]) -> Params {

@@ -1,4 +1,4 @@
-// Parameter texts whose sets or faults are known.
+//! Parameter texts whose sets or faults are known.
 use crate::{LineCause, LineFault, named, read_params};
 
 const TEXT: &[u8] =

@@ -1,13 +1,13 @@
-// Parameter text: ten lines, each the name of a field and its numeral.
+//! Parameter text (docs/FORMATS.md, Texts): ten lines, each the name of a field and its numeral.
 ghost use Rattle.std.specs.Prelude.{◌≡◌, ◌+◌, ◌∷◌, ℕ, List, IfOk, IfErr, Ok, Err};
 ghost use Rattle.rx_text.specs.Lines.{words_of};
-ghost use Rattle.rx_params.specs.Text.{ParamsText, field_value, before_values, values_from, params_from};
+ghost use Rattle.rx_params.specs.Text.{ParamsText, field_value, before_values, field_values_from, params_from};
 
 use crate::{LineCause, LineFault, Params};
 use rx_text::{Lines, line_laws, number_below, numeral_laws, two_words, word_laws};
 
-/// The set that a parameter text spells, or the first line that is wrong, with the cause `Form` or `Number`. Whether
-/// the set is accepted is not asked.
+/// The set that a parameter text spells, or the first line that is wrong, 1 to 11, with the cause `Form` or `Number`.
+/// Whether the set is accepted is not asked.
 pub fn read_params(bytes: &[u8]) -> Result<Params, LineFault>
     // Which fault it is.
     ensures exact { result ≡ params_from bytes.now }
@@ -51,8 +51,8 @@ fn fields_of_text(bytes: &[u8]) -> Result<Params, LineFault>
 // The value of the next line, which has this number and is to be that of the field of this name.
 fn field(lines: &mut Lines<'_>, line: u32, name: &str) -> Result<u32, LineFault>
     ensures value { IfOk result (λ value. (names : List (List ℕ)) →
-        values_from line (name.now ∷ names) lines.old ≡ before_values (Ok value) line (values_from (line + 1) names lines.new)) }
-    ensures fault { IfErr result (λ fault. (names : List (List ℕ)) → values_from line (name.now ∷ names) lines.old ≡ Err fault) }
+        field_values_from line (name.now ∷ names) lines.old ≡ before_values (Ok value) line (field_values_from (line + 1) names lines.new)) }
+    ensures fault { IfErr result (λ fault. (names : List (List ℕ)) → field_values_from line (name.now ∷ names) lines.old ≡ Err fault) }
 {
     let value = match lines.next_line() {
         Some(text) => value_of(text, name),

@@ -1,13 +1,11 @@
-use Rattle.std.proofs.Common.{◌≡◌, ◌<◌, ◌*◌, ◌%◌, ◌^◌, ◌∙◌, ap, sym, Some}
+use Rattle.std.proofs.Common.{◌≡◌, ◌<◌, ◌*◌, ◌∙◌, ap, sym, Some}
 use Rattle.rx_laws.specs.Decode.{plaintexts}
 use Rattle.rx_params.specs.declared.bounds.Refused.TheVariants.{NarrowBox}
-use Rattle.rx_params.proofs.Sizes.{plaintexts_shifted}
 use Rattle.rx_params.proofs.Refusals.{refused-box}
 use Rattle.rx_params.proofs.bounds.check_box.Goals as goal
 
 pub returns-else-numbers-p-clause-narrow : goal.returns-else-numbers-p-clause-narrow
 returns-else-numbers-p-clause-narrow c =
-    let numbers : 1 * 2 ^ (2 * c.args.p.now.message_bits) % 2 ^ 32 ≡ plaintexts c.args.p.now.message_bits =
-    plaintexts_shifted c.args.p.now.message_bits c.requires.fields.message_bits in
+    let numbers : c.from-numbers.result ≡ plaintexts c.args.p.now.message_bits = c.from-numbers.ensures ∙ c.plaintexts.ensures.value in
     let narrow : c.args.p.now.poly_size < 2 * plaintexts c.args.p.now.message_bits = rw numbers at c.if-numbers-p.false in
     refused-box c.args.p.now c.requires.fields c.requires.key narrow ∙ ap (λ n. Some (NarrowBox c.args.p.now.poly_size n)) (sym numbers)

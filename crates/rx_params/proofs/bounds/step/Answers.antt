@@ -10,7 +10,7 @@ unfolding step_of rest_of large_dim
 returns-clause-value c =
     let e : c.two_to-product.result ≡ 2 ^ (c.args.p.now.pbs_base_log - 1) * 2 ^ c.args.p.now.glwe_bound =
     c.two_to-product.ensures.value ∙ pow-add 2 (c.args.p.now.pbs_base_log - 1) c.args.p.now.glwe_bound in
-    rw (c.two_to-rest.ensures.value, c.large_dim.ensures.value, c.from-products.ensures, e) (omega arith)
+    rw (c.two_to-rest.ensures.value, c.from-words.ensures, c.large_dim.ensures.value, c.from-products.ensures, e) (omega arith)
 
 pub returns-clause-bound : goal.returns-clause-bound
 returns-clause-bound c =
@@ -18,7 +18,7 @@ returns-clause-bound c =
     let products : (c.args.p.now.glwe_dim + 1) * c.args.p.now.pbs_level * c.args.p.now.poly_size ≤ 5 * 30 * 4096 =
     mul-le-mul (mul-le-mul dim c.requires.pbs_level.0.1) (poly_size-high c.args.p.now c.requires) in
     let products_is : c.from-products.result ≤ 5 * 30 * 4096 = omega (arith, c.from-products.ensures) in
-    let words : 1 + c.large_dim.result ≤ 1 + 2 ^ 14 = omega (arith, c.large_dim.ensures.bound) in
-    let rests : c.two_to-rest.result * (1 + c.large_dim.result) ≤ 2 ^ 63 * (1 + 2 ^ 14) = mul-le-mul c.two_to-rest.ensures.bound words in
+    let words : c.from-words.result ≤ 1 + 2 ^ 14 = omega (arith, c.from-words.ensures, c.large_dim.ensures.high) in
+    let rests : c.two_to-rest.result * c.from-words.result ≤ 2 ^ 63 * (1 + 2 ^ 14) = mul-le-mul c.two_to-rest.ensures.bound words in
     let sums : c.from-products.result * c.two_to-product.result ≤ 5 * 30 * 4096 * 2 ^ 63 = mul-le-mul products_is c.two_to-product.ensures.bound in
     omega arith

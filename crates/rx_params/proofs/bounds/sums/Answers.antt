@@ -9,4 +9,4 @@ unfolding boot_of base_of left_of
 returns c =
     let half : c.two_to-2.result ≡ unit c.args.p.now.message_bits / 2 =
     c.two_to-2.ensures.value ∙ half_unit c.args.p.now.message_bits c.requires.message_bits in
-    rw (c.max-base.ensures, c.noise_limit.ensures.value, c.two_to.ensures.value, half, c.from.ensures, c.step-step.ensures.value, c.switch-switch.ensures.value, c.round-round.ensures.value) refl
+    rw (c.max-base.ensures, c.from-2.ensures, c.noise_limit.ensures.value, c.two_to.ensures.value, half, c.from.ensures, c.step-step.ensures.value, c.switch-switch.ensures.value, c.round-round.ensures.value) refl
