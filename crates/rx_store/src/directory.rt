@@ -1,21 +1,23 @@
-// A store over the files of the system. It tells nothing of what they hold.
-ghost use Rattle.std.specs.Prelude.{◌≡◌, OnErr, OnOk, None};
-ghost use Rattle.std.specs.Io.KnownBytes.{Appends};
-ghost use Rattle.rx_store.specs.Real.{ReadsUpTo, GivesAllLeft, TakesPart};
+//! A store over the files of the system. It tells nothing of what they hold.
+ghost use Rattle.std.specs.Prelude.{◌≡◌, None};
+ghost use Rattle.rx_store.specs.Real.{ReadsUpTo, GivesAllLeft};
 ghost use Rattle.rx_store.specs.Counts.{counted};
 ghost use Rattle.rx_store.specs.Failed.{read_failed, write_failed};
 ghost use Rattle.rx_store.specs.StoreCalls.{ReadGives, ReadCounts, WriteCounts};
 
+use crate::whole_writes::write_whole;
 use crate::{ReadError, Store, WriteError};
 use std::alloc::{AllocError, Global};
 use std::fs;
-use std::io::{Read, Write};
+use std::io::Read;
 use std::marker::Model;
 use std::rt::Files;
 
+/// The most bytes of one read.
 const CHUNK: usize = 65536;
 
-/// The files that the runtime opens. It counts each failure; a missing file is one.
+/// The files that the runtime opens. It counts each failure; a missing file is one. A file that is too long is
+/// read to one byte past the limit (docs/DECISIONS.md).
 #[derive(Drop)]
 pub struct DirStore<F: Files> {
     runtime: F,
@@ -120,23 +122,4 @@ fn write_file<F: Files>(files: &F, name: &str, bytes: &[u8]) -> Result<(), Write
         return Err(WriteError::Failed);
     };
     write_whole(&mut file, bytes)
-}
-
-/// Writes all the bytes. A write that takes none of those that are left is a failure. After a failure some first
-/// bytes of them were written, and nothing else.
-pub(crate) fn write_whole<W: Write>(writer: &mut W, bytes: &[u8]) -> Result<(), WriteError>
-    ensures whole { OnOk result (Appends (W.contents writer.old) (W.contents writer.new) bytes.now) }
-    ensures part { OnErr result (TakesPart (W.contents writer.old) (W.contents writer.new) bytes.now) }
-{
-    let mut rest = bytes;
-    while !rest.is_empty() {
-        let Ok(taken) = writer.write(rest) else {
-            return Err(WriteError::Failed);
-        };
-        if taken == 0 {
-            return Err(WriteError::Failed);
-        }
-        rest = &rest[taken..];
-    }
-    Ok(())
 }

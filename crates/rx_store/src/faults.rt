@@ -1,4 +1,4 @@
-// Why a call of a store or a sink was not done.
+//! Why a call of a store or a sink was not done.
 use std::alloc::AllocError;
 
 /// Why a file was not read.

@@ -1,4 +1,4 @@
-// A store and a sink in memory, which fail at the calls of a list.
+//! A store and a sink in memory, which fail at the calls of a list.
 ghost use Rattle.std.specs.Prelude.{◌≡◌, ◌++◌, OnOk, OnErr, Some};
 ghost use Rattle.std.specs.Option.{option_copied};
 ghost use Rattle.rx_store.specs.Files.{file_at, with_file};
@@ -56,7 +56,7 @@ impl Model for MemStore {
 }
 
 impl MemStore {
-    /// No files. The calls with these numbers, counted from 0, will fail.
+    /// No files. The calls with these numbers, reads and writes counted together from 0, will fail.
     pub fn new(alloc: Global, failing: Vec<u64>) -> MemStore
         ensures { result ≡ new_store failing.items }
     {
@@ -69,7 +69,8 @@ impl MemStore {
         }
     }
 
-    /// Places a file. This counts as no call.
+    /// Places a file, also over one of the same name. This counts as no call. The error is want of memory,
+    /// after which nothing has changed.
     pub fn insert(&mut self, name: &str, bytes: &[u8]) -> Result<(), AllocError>
         ensures placed { OnOk result
             (self.new ≡ record self.old { files = with_file name.now bytes.now self.old.files }) }

@@ -1,4 +1,4 @@
-// A sink over a writer of the system. It tells nothing of what was written.
+//! A sink over a writer of the system. It tells nothing of what was written.
 ghost use Rattle.std.specs.Prelude.{◌≡◌, OnErr, OnOk, None};
 ghost use Rattle.std.specs.Io.KnownBytes.{Appends};
 ghost use Rattle.rx_store.specs.Counts.{counted};
@@ -6,7 +6,7 @@ ghost use Rattle.rx_store.specs.Failed.{write_failed};
 ghost use Rattle.rx_store.specs.Real.{TakesPart};
 ghost use Rattle.rx_store.specs.StoreCalls.{WriteCounts};
 
-use crate::directory::write_whole;
+use crate::whole_writes::write_whole;
 use crate::{Sink, WriteError};
 use std::io::Write;
 use std::marker::Model;

@@ -1,4 +1,5 @@
-use crate::directory::write_whole;
+//! What stores and outputs answer and leave, in memory and over the real thing.
+use crate::whole_writes::write_whole;
 use crate::{DirStore, MemSink, MemStore, OutSink, ReadError, Sink, Store, WriteError};
 use std::io::Write;
 use std::test::Fail;

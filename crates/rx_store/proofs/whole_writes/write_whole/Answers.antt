@@ -1,7 +1,7 @@
 use Rattle.std.proofs.Common.{ap, subst, ◌++◌, take}
 use Rattle.std.specs.Io.KnownBytes.{Appends}
 use Rattle.rx_store.proofs.KnownLemmas.{split_further, appends_both, stays, nothing_more, first_part}
-use Rattle.rx_store.proofs.directory.write_whole.Goals as goal
+use Rattle.rx_store.proofs.whole_writes.write_whole.Goals as goal
 
 pub loop-rest-preserved : goal.loop-rest-preserved
 loop-rest-preserved g c =

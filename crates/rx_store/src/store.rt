@@ -1,8 +1,7 @@
-// A store of named files, and a sink of output.
-ghost use Rattle.std.specs.Prelude.{◌≡◌, ◌≤◌, ℕ, List, Option};
+//! A store of named files.
+ghost use Rattle.std.specs.Prelude.{◌≡◌, ◌≤◌, ℕ, Option};
 ghost use Rattle.rx_store.specs.Files.{Files};
 ghost use Rattle.rx_store.specs.StoreCalls.{ReadGives, ReadCounts, WriteLeaves, WriteCounts};
-ghost use Rattle.rx_store.specs.SinkCalls.{PutLeaves};
 
 use crate::{ReadError, WriteError};
 use std::alloc::Global;
@@ -20,7 +19,8 @@ pub trait Store {
 
     /// The whole bytes of a file that is no longer than the limit, in bytes. It changes no file.
     /// `TooLong` comes only for a longer file, `Missing` only where files are told and none has
-    /// the name, `Failed` only where the count of failed reads rose or stands at its last value.
+    /// the name, `Failed` only where the count of failed reads rose or stands at its last value,
+    /// `Memory` for want of memory.
     fn read(&mut self, alloc: Global, name: &str, limit: u64) -> Result<Vec<u8>, ReadError>
         ensures gives { ReadGives (files self.old) name.now limit result }
         ensures same { files self.new ≡ files self.old }
@@ -34,19 +34,4 @@ pub trait Store {
         ensures leaves { WriteLeaves (files self.old) (files self.new) name.now bytes.now result }
         ensures reads { read_faults self.new ≡ read_faults self.old }
         ensures writes { WriteCounts (write_faults self.old) (write_faults self.new) result };
-}
-
-/// An output that grows at its end.
-pub trait Sink {
-    /// What was written, where the sink tells it.
-    ghost written: { Self → Option (List ℕ) };
-
-    /// How many calls failed. The count never falls, and stays at the last value of a u64.
-    ghost faults: { Self → ℕ };
-
-    /// Appends the whole piece. After `Failed`, which comes only where the count rose or stands at
-    /// its last value, some first bytes of it were appended; after `Memory` nothing was.
-    fn put(&mut self, piece: &[u8]) -> Result<(), WriteError>
-        ensures leaves { PutLeaves (written self.old) (written self.new) piece.now result }
-        ensures counts { WriteCounts (faults self.old) (faults self.new) result };
 }
