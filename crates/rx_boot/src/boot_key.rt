@@ -1,4 +1,4 @@
-// The bootstrapping key.
+//! The bootstrapping key (CJP, GGSW).
 ghost use Rattle.std.specs.Prelude.{◌≡◌, IfOk, length};
 ghost use Rattle.rx_params.specs.Acceptance.{FieldsInRange};
 ghost use Rattle.rx_params.specs.Derived.{large_dim};
@@ -12,7 +12,8 @@ use std::alloc::{AllocError, Global};
 use std::marker::Model;
 
 /// The rows by which a bootstrap turns its accumulator: for each bit of the small key its encryption, as
-/// `(glwe_dim + 1) * pbs_level` rows of `glwe_dim + 1` polynomials.
+/// `(glwe_dim + 1) * pbs_level` rows of `glwe_dim + 1` polynomials of `poly_size` words. Contracts see the list
+/// of all words.
 #[derive(Drop)]
 pub struct BootKey {
     words: Words,
@@ -27,8 +28,9 @@ impl Model for BootKey {
 }
 
 impl BootKey {
-    /// The rows for the bits of the small key, under the large key. The masks come from one seed and the
-    /// noises from another; each row has a stream of its own in each.
+    /// The rows for the `lwe_dim` bits of the small key, under the large key of `glwe_dim * poly_size` bits. The
+    /// masks come from one seed and the noises from another; each row has a stream of its own in each. The error
+    /// is want of memory.
     pub fn make(
         alloc: Global,
         p: &Params,
@@ -49,7 +51,7 @@ impl BootKey {
         })
     }
 
-    /// A key of these words, without a copy.
+    /// A key of these words, however many they are, without a copy.
     pub fn from_words(words: Words) -> BootKey
         ensures { result ≡ words }
     {

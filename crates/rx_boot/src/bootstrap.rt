@@ -1,4 +1,4 @@
-// The bootstrap.
+//! The bootstrap (CJP, programmable bootstrapping).
 ghost use Rattle.std.specs.Prelude.{◌≡◌, ◌+◌, length};
 ghost use Rattle.rx_laws.specs.Decode.{plaintexts};
 ghost use Rattle.rx_params.specs.Derived.{large_dim};
@@ -13,7 +13,8 @@ use rx_lwe::switch_into;
 /// Looks up a table in a ciphertext under the large key: writes a ciphertext of the table's entry at the
 /// number that `input` holds into `out`. The table has `4^message_bits` entries, and both ciphertexts have
 /// `glwe_dim * poly_size + 1` words, whichever they are. Where the input holds a number within the greatest
-/// noise of a set's sums, the output holds its entry within the noise of a bootstrap.
+/// noise that a lookup may be given, the output holds its entry within the noise of a bootstrap (docs/NOISE.md,
+/// The theorem). It takes no memory.
 pub fn bootstrap_into(
     scratch: &mut BootScratch,
     key: &ServerKey,

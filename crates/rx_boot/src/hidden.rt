@@ -1,4 +1,4 @@
-// What the rows of a bootstrapping key hide.
+//! What the rows of a bootstrapping key hide (CJP, GGSW; the signs docs/FORMATS.md, Random streams).
 ghost use Rattle.std.specs.Prelude.{◌≡◌, ◌+◌, ◌/◌, ◌%◌, ◌<◌, ◌*ℤ◌, pos, neg_ℤ, length};
 ghost use Rattle.rx_laws.specs.Words.{of_words, AreWords};
 ghost use Rattle.rx_ring.specs.Polynomial.{unit_polynomial};
@@ -10,8 +10,8 @@ use crate::clear::clear;
 use rx_lwe::SecretKey;
 use rx_params::Params;
 
-// Writes what the row of a number hides: the opposite of a key polynomial times the bit, or the bit itself
-// as the polynomial's first coefficient, each times the weight of the row's level.
+/// Writes what the row of a number hides: the opposite of a key polynomial times the bit, or the bit itself
+/// as the polynomial's first coefficient, each times the weight of the row's level.
 pub(crate) fn hide(
     p: &Params,
     small: &SecretKey,

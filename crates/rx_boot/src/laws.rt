@@ -1,4 +1,4 @@
-// The budget of noise and the law of the bootstrap, as a contract can name them.
+//! The budget of noise and the law of the bootstrap (docs/NOISE.md), as a contract can name them.
 ghost use Rattle.rx_boot.specs.NoiseLaws.{BudgetLaws, LookupLaws};
 
 /// What the acceptance of a set says of its powers of two, and that its sums are the bounds of each step of

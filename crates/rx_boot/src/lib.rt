@@ -1,4 +1,5 @@
-//! Server keys, and the bootstrap by which a server looks up tables in ciphertexts.
+//! Server keys, and the bootstrap by which a server looks up tables in ciphertexts. Sources are named as in
+//! docs/DEFINITIONS.md.
 #![tactic(auto)]
 
 mod boot_key;

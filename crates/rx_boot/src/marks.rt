@@ -1,4 +1,4 @@
-// Marks of a set: the places round the torus at which a bootstrap counts.
+//! Marks of a set: the places round the torus at which a bootstrap counts.
 ghost use Rattle.std.specs.Prelude.{◌≡◌, ◌*◌, ◌^◌, ◌<◌, ◌≤◌};
 ghost use Rattle.rx_ring.specs.Switch.{mark};
 ghost use Rattle.rx_params.specs.Acceptance.{FieldsInRange};
@@ -7,7 +7,7 @@ ghost use Rattle.rx_boot.specs.Bootstrap.{half_mark};
 use rx_lwe::mod_switch;
 use rx_params::Params;
 
-// The mark nearest to a word, of the `2 * poly_size` marks of a set.
+/// The mark nearest to a word, of the `2 * poly_size` marks of a set.
 pub(crate) fn mark_of(p: &Params, word: u64) -> u32
     requires { FieldsInRange p.now }
     ensures value { result ≡ mark (half_mark p.now) (2 * p.now.poly_size) word }

@@ -1,4 +1,4 @@
-// The blind rotation.
+//! The blind rotation (CJP, blind rotation).
 ghost use Rattle.std.specs.Prelude.{◌≡◌, ℕ, ◌+ℤ◌, ◌+◌, ◌-◌, ◌*◌, ◌<◌, length, get_or};
 ghost use Rattle.rx_laws.specs.Decode.{plaintexts};
 ghost use Rattle.rx_laws.specs.Torus.{word};
@@ -18,7 +18,8 @@ use rx_glwe::{GlweScratch, external_add};
 use rx_params::Params;
 use rx_poly::{accumulator, rotate_into, turn_away_into};
 
-// The blind rotation of the accumulator of a table by a switched ciphertext, written into `turning`.
+/// The blind rotation of the accumulator of a table by a switched ciphertext, written into `turning`. `away`
+/// is room.
 pub(crate) fn rotate(
     product: &mut GlweScratch,
     p: &Params,

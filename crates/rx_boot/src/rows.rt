@@ -1,4 +1,4 @@
-// The rows of a bootstrapping key, in the order of their numbers.
+//! The rows of a bootstrapping key, in the order of their numbers (docs/FORMATS.md, Random streams).
 ghost use Rattle.std.specs.Prelude.{◌≡◌, ◌<◌, ◌*◌, IfOk, length};
 ghost use Rattle.rx_params.specs.Acceptance.{FieldsInRange};
 ghost use Rattle.rx_params.specs.Derived.{large_dim};

@@ -1,4 +1,4 @@
-// Room for a bootstrap.
+//! Room for a bootstrap.
 ghost use Rattle.std.specs.Prelude.{◌≡◌, IfOk};
 ghost use Rattle.rx_params.specs.Acceptance.{FieldsInRange};
 
@@ -7,8 +7,9 @@ use rx_params::Params;
 use std::alloc::{AllocError, Global};
 use std::marker::Model;
 
-/// Room for the bootstraps of a set: the switched input, the ciphertext that turns, what a turn
-/// multiplies, and what its external product needs. Contracts see the set that it was made for.
+/// Room for the bootstraps of a set: the `lwe_dim + 1` words of the switched input, the ciphertext over
+/// polynomials that turns, as much again for what a turn multiplies, and what its external product needs.
+/// Contracts see the set that it was made for.
 #[derive(Drop)]
 pub struct BootScratch {
     params: Params,
@@ -33,7 +34,7 @@ impl Model for BootScratch {
 }
 
 impl BootScratch {
-    /// Room for a set.
+    /// Room for a set. The error is want of memory.
     pub fn new(alloc: Global, p: &Params) -> Result<BootScratch, AllocError>
         requires { FieldsInRange p.now }
         ensures { IfOk result (λ scratch. scratch ≡ p.now) }

@@ -1,4 +1,4 @@
-// Server keys.
+//! Server keys (CJP, bootstrapping key).
 ghost use Rattle.std.specs.Prelude.{◌≡◌, ◌+◌, IfOk, length, take, drop};
 ghost use Rattle.rx_params.specs.Acceptance.{Accepts};
 ghost use Rattle.rx_lwe.specs.Secret.{small_key, large_key};
@@ -15,7 +15,8 @@ use rx_torus::Words;
 use std::alloc::{AllocError, Global};
 use std::marker::Model;
 
-/// What a server evaluates with: an accepted set, a bootstrapping key and a switch key of that set.
+/// What a server evaluates with: an accepted set, a bootstrapping key and a switch key of that set. Contracts
+/// see the set and the two lists of words.
 #[derive(Drop)]
 pub struct ServerKey {
     params: Params,
@@ -40,7 +41,8 @@ impl Model for ServerKey {
 
 impl ServerKey {
     /// The server key of a client: its secret bits and noises come from the client's seed, its masks from
-    /// the mask seed.
+    /// the mask seed. The phase of each row is within the set's bound of what it hides. The error is want of
+    /// memory.
     pub fn make(
         alloc: Global,
         p: &Params,
@@ -62,7 +64,9 @@ impl ServerKey {
         })
     }
 
-    /// The server key of a set with these words: first the bootstrapping rows, then the switch rows.
+    /// The server key of a set with a copy of these words: first those of the bootstrapping rows, as many as
+    /// `boot_words` says, then those of the switch rows, as many as `switch_words`. The error is want of
+    /// memory.
     pub fn of_words(alloc: Global, p: &Params, words: &[u64]) -> Result<ServerKey, AllocError>
         requires accepted { Accepts p.now }
         requires size { length words.now ≡ boot_size p.now + switch_size p.now }
@@ -78,7 +82,7 @@ impl ServerKey {
         Ok(ServerKey::from_parts(p, boot, switch))
     }
 
-    /// The server key of a set with these two lists of words, without a copy.
+    /// The server key of a set with these two lists of words, of the same counts, without a copy.
     pub fn from_parts(p: &Params, boot: Words, switch: Words) -> ServerKey
         requires accepted { Accepts p.now }
         requires boot { length boot ≡ boot_size p.now }
@@ -92,7 +96,7 @@ impl ServerKey {
         }
     }
 
-    /// The set.
+    /// The set, which is accepted.
     pub fn params(&self) -> &Params
         ensures value { result.now ≡ self.now.params }
         ensures accepted { Accepts result.now }

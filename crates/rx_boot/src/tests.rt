@@ -1,4 +1,4 @@
-// A key that is read again, and numbers that are looked up.
+//! A key that is read again, and numbers that are looked up.
 ghost use Rattle.std.specs.Prelude.{◌≡◌, ◌<◌, length};
 ghost use Rattle.rx_params.specs.Derived.{large_dim};
 

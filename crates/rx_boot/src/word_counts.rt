@@ -1,4 +1,4 @@
-// How many words the two parts of a server key have.
+//! How many words the two parts of a server key have.
 ghost use Rattle.std.specs.Prelude.{◌≡◌, ◌^◌, ◌≤◌};
 ghost use Rattle.rx_params.specs.Acceptance.{Accepts};
 ghost use Rattle.rx_lwe.specs.SwitchKeys.{switch_size};
@@ -6,7 +6,7 @@ ghost use Rattle.rx_boot.specs.BootKeys.{boot_size};
 
 use rx_params::Params;
 
-/// The words of the bootstrapping rows of a set.
+/// How many words the bootstrapping rows of an accepted set have, at most 2^24.
 pub fn boot_words(params: &Params) -> usize
     requires { Accepts params.now }
     ensures value { result ≡ boot_size params.now }
@@ -16,7 +16,7 @@ pub fn boot_words(params: &Params) -> usize
     params.lwe_dim as usize * ((params.glwe_dim as usize + 1) * params.pbs_level as usize * size)
 }
 
-/// The words of the switch rows of a set.
+/// How many words the switch rows of an accepted set have, at most 2^24.
 #[tactic(auto, unfolding(rx_params::specs::Derived::large_dim))]
 pub fn switch_words(params: &Params) -> usize
     requires { Accepts params.now }

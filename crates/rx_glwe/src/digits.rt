@@ -1,4 +1,4 @@
-// The digits of a polynomial, level by level.
+//! The digits of a polynomial, level by level (CJP, gadget decomposition).
 ghost use Rattle.std.specs.Prelude.{◌≡◌, ℕ, pos, ◌+◌, ◌*◌, ◌<◌, ◌≢◌, length, get_or};
 ghost use Rattle.rx_params.specs.Acceptance.{FieldsInRange};
 ghost use Rattle.rx_glwe.specs.Levels.{AreLevels};

@@ -1,4 +1,4 @@
-// The external product.
+//! The external product (CJP, external product).
 ghost use Rattle.std.specs.Prelude.{◌≡◌, ◌≤◌, ◌*◌, ◌+ℤ◌, ◌+◌, length};
 ghost use Rattle.rx_laws.specs.Words.{of_numbers};
 ghost use Rattle.rx_ring.specs.Polynomial.{product};
@@ -13,9 +13,10 @@ use crate::digits::write_digits;
 use rx_params::Params;
 use rx_poly::product_add;
 
-/// Adds the external product of an encrypted bit and a ciphertext to `acc`. The bit has
-/// `(glwe_dim + 1) * pbs_level` rows, and each row, the ciphertext and `acc` have `glwe_dim + 1`
-/// polynomials of `poly_size` words.
+/// Adds the external product of an encrypted bit and a ciphertext to `acc`, modulo 2^64. The bit has
+/// `(glwe_dim + 1) * pbs_level` rows, those of a polynomial together and the highest level first, and each
+/// row, the ciphertext and `acc` have `glwe_dim + 1` polynomials of `poly_size` words. `scratch` is room for
+/// the same set.
 pub fn external_add(
     scratch: &mut GlweScratch,
     p: &Params,

@@ -1,4 +1,4 @@
-// The extraction of coefficient 0.
+//! The extraction of coefficient 0 (CJP, sample extraction).
 ghost use Rattle.std.specs.Prelude.{◌≡◌, ◌+◌, ◌<◌, length};
 ghost use Rattle.rx_laws.specs.Words.{of_words, AreWords};
 ghost use Rattle.rx_ring.specs.Polynomial.{turned};

@@ -1,5 +1,6 @@
 //! Ciphertexts over polynomials: fresh rows, the external product with an encrypted bit, and the
-//! extraction of a coefficient.
+//! extraction of a coefficient. A ciphertext is `glwe_dim` mask polynomials and the body, of `poly_size` words
+//! each, coefficient 0 first. Sources are named as in docs/DEFINITIONS.md.
 #![tactic(auto)]
 
 mod digits;

@@ -1,4 +1,4 @@
-// Fresh rows.
+//! Fresh rows (CJP, GLWE), drawn as docs/FORMATS.md says, Random streams.
 ghost use Rattle.std.specs.Prelude.{◌≡◌, ◌+◌, ◌*◌, ◌<◌, ◌≤◌, ◌+ℤ◌, pos, length, EachIndex, slice_index};
 ghost use Rattle.rx_laws.specs.Sum.{sum_to};
 ghost use Rattle.rx_laws.specs.Words.{of_words, AreWords};
@@ -15,9 +15,10 @@ use rx_params::Params;
 use rx_poly::binary_product_add;
 use rx_torus::Stream;
 
-/// Writes the words that hide a polynomial under the large key into `out`: `glwe_dim` mask polynomials,
-/// and then the body. The polynomial to hide has `poly_size` words, `out` has `glwe_dim + 1` polynomials,
-/// and `scratch` has at least two, of which nothing is read and nothing is kept.
+/// Writes the words that hide a polynomial under the large key into `out`: `glwe_dim` mask polynomials, the
+/// next words of `mask`, and then the body, with the next `poly_size` numbers of `noise`, from
+/// `-2^glwe_bound` to `2^glwe_bound`. The polynomial to hide has `poly_size` words, `out` has `glwe_dim + 1`
+/// polynomials, and `scratch` has at least two, of which nothing is read and nothing is kept.
 #[tactic(auto, unfolding(rx_params::specs::Derived::large_dim))]
 pub fn encrypt_row_into(
     p: &Params,

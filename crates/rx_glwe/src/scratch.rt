@@ -1,4 +1,4 @@
-// Room for an external product.
+//! Room for an external product.
 ghost use Rattle.std.specs.Prelude.{◌≡◌, IfOk};
 ghost use Rattle.rx_params.specs.Acceptance.{FieldsInRange};
 
@@ -6,8 +6,8 @@ use rx_params::Params;
 use std::alloc::{AllocError, Global};
 use std::marker::Model;
 
-/// Room for the external products of a set: the digits of one polynomial at all levels, and what a
-/// product of polynomials needs. Contracts see the set that it was made for.
+/// Room for the external products of a set: the digits of one polynomial at all `pbs_level` levels, and the
+/// two polynomials of words that a product needs. Contracts see the set that it was made for.
 #[derive(Drop)]
 pub struct GlweScratch {
     params: Params,
@@ -28,7 +28,7 @@ impl Model for GlweScratch {
 }
 
 impl GlweScratch {
-    /// Room for a set.
+    /// Room for a set. The error is want of memory.
     pub fn new(alloc: Global, p: &Params) -> Result<GlweScratch, AllocError>
         requires { FieldsInRange p.now }
         ensures { IfOk result (λ scratch. scratch ≡ p.now) }

@@ -1,4 +1,4 @@
-// A polynomial that comes back from a row, a gadget that gives its input back, and worked places.
+//! A polynomial that comes back from a row, a gadget that gives its input back, and worked places.
 ghost use Rattle.std.specs.Prelude.{◌≡◌, length};
 
 use crate::{GlweScratch, encrypt_row_into, external_add, extract_into};

@@ -1,4 +1,4 @@
-// Fresh ciphertexts over words.
+//! Fresh ciphertexts over words (CJP, LWE), drawn as docs/FORMATS.md says, Random streams.
 ghost use Rattle.std.specs.Prelude.{◌≡◌, ◌+◌, ◌≤◌, length};
 ghost use Rattle.rx_torus.specs.Streams.{drawn_by};
 ghost use Rattle.rx_lwe.specs.Lwe.{encrypted};
@@ -6,8 +6,9 @@ ghost use Rattle.rx_lwe.specs.Lwe.{encrypted};
 use crate::SecretKey;
 use rx_torus::Stream;
 
-/// Writes the words that hide a message under a key into `out`: one mask word for each bit of the key,
-/// and then the body. The noise lies from `-2^bound` to `2^bound`, with a bound of at most 40.
+/// Writes the words that hide a message, any word, under a key into `out`: one mask word for each bit of the
+/// key, the next ones of `mask`, and then the body. The noise is the next number of `noise`; it lies from
+/// `-2^bound` to `2^bound`, with a bound of at most 40.
 pub fn encrypt_into(
     key: &SecretKey,
     mask: &mut Stream,

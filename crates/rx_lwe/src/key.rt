@@ -1,4 +1,4 @@
-// Secret keys.
+//! Secret keys, drawn as docs/FORMATS.md says, Random streams.
 ghost use Rattle.std.specs.Prelude.{◌≡◌, ◌<◌, ◌%◌, ◌++◌, IfOk, OnOk, EachIndex, slice_index, length, map};
 ghost use Rattle.std.specs.List.{range_with_len};
 ghost use Rattle.rx_torus.specs.Kinds.{stream_number};
@@ -15,7 +15,7 @@ use std::marker::Model;
 #[cfg(test)]
 mod tests;
 
-/// A secret key: one or more bits, each 0 or 1.
+/// A secret key: one or more bits, each a word of 0 or 1. Contracts see the list of them.
 #[derive(Drop)]
 pub struct SecretKey {
     bits: Vec<u64>,
@@ -34,7 +34,7 @@ impl Model for SecretKey {
 
 impl SecretKey {
     /// The large key of a seed: for each of the `glwe_dim` polynomials, `poly_size` bits of a stream of
-    /// its own.
+    /// its own, coefficient 0 first. The error is want of memory.
     pub fn large(alloc: Global, p: &Params, seed: &[u8; 32]) -> Result<SecretKey, AllocError>
         requires { FieldsInRange p.now }
         ensures key { IfOk result (λ key. key ≡ large_key p.now seed.now) }

@@ -1,4 +1,6 @@
-//! Ciphertexts over words: secret keys, fresh ciphertexts, phases and what they decode to.
+//! Ciphertexts over words: secret keys, fresh ciphertexts, phases and what they decode to, sums with a
+//! weight, and the switches of the key and of the modulus. A ciphertext under a key of n bits is n mask words
+//! and the body. Sources are named as in docs/DEFINITIONS.md.
 #![tactic(auto)]
 
 mod encrypt;

@@ -1,4 +1,4 @@
-// The rows of a made switch key.
+//! The rows of a made switch key, drawn as docs/FORMATS.md says, Random streams.
 ghost use Rattle.std.specs.Prelude.{◌≡◌, ◌*◌, ◌+◌, ◌<◌, IfOk, length};
 ghost use Rattle.rx_params.specs.Acceptance.{FieldsInRange};
 ghost use Rattle.rx_params.specs.Derived.{large_dim};

@@ -1,4 +1,4 @@
-// The switch of the modulus.
+//! The switch of the modulus (CJP, modulus switching).
 ghost use Rattle.std.specs.Prelude.{◌≡◌, ◌+◌, ◌-◌, ◌^◌, ◌<◌, ◌≤◌};
 ghost use Rattle.rx_ring.specs.Switch.{mark};
 

@@ -1,11 +1,13 @@
-// Phases of ciphertexts over words, and what they decode to.
+//! Phases of ciphertexts over words (CJP, LWE), and what they decode to, as in the TFHE-rs handbook, shortint,
+//! which calls the unit delta.
 ghost use Rattle.std.specs.Prelude.{◌≡◌, ◌⊎◌, ◌+◌, ◌*◌, ◌<◌, length};
 ghost use Rattle.rx_laws.specs.Decode.{plaintexts, unit as unit_of, decoded};
 ghost use Rattle.rx_lwe.specs.Lwe.{phase_of};
 
 use crate::SecretKey;
 
-/// The phase of the words of a ciphertext: its body less the mask times the key, modulo 2^64.
+/// The phase of the words of a ciphertext, a mask word for each bit of the key and then the body: the body
+/// less the mask times the key, modulo 2^64.
 pub fn phase(key: &SecretKey, words: &[u64]) -> u64
     requires { length words.now ≡ length key.now + 1 }
     ensures { result ≡ phase_of key.now words.now }

@@ -1,4 +1,4 @@
-// The switch of ciphertexts from the large key to the small one.
+//! The switch of ciphertexts from the large key to the small one (CJP, key switching).
 ghost use Rattle.std.specs.Prelude.{◌≡◌, ℕ, ℤ, pos, neg_ℤ, ◌-ℤ◌, ◌*ℤ◌, ◌≤ℤ◌, ◌+◌, ◌*◌, ◌<◌, ◌^◌, IfOk, length, get_or};
 ghost use Rattle.rx_laws.specs.Sum.{sum_to};
 ghost use Rattle.rx_laws.specs.Digits.{digit};
@@ -21,7 +21,8 @@ mod tests;
 const MOST_LEVELS: usize = 30;
 
 /// A key that switches ciphertexts from the large key to the small one. For each bit of the large key and
-/// each level of the digits it has a row of words, which hide that bit under the small key.
+/// each level of the digits, the highest first, it has a row of words, which hide that bit, times the weight
+/// of the level, under the small key. Contracts see its sizes and its words.
 #[derive(Drop)]
 pub struct SwitchKey {
     big: usize,
@@ -43,7 +44,8 @@ impl Model for SwitchKey {
 
 impl SwitchKey {
     /// The switch key of the two keys of a set, its masks drawn from one seed and its noises from another.
-    /// The large key has `glwe_dim * poly_size` bits, the small one `lwe_dim`. The error is want of memory.
+    /// The large key has `glwe_dim * poly_size` bits, the small one `lwe_dim`. The phase of each row is within
+    /// `2^lwe_bound` of what it hides. The error is want of memory.
     pub fn make(
         alloc: Global,
         p: &Params,

@@ -1,4 +1,4 @@
-// Worked values, and messages that come back.
+//! Worked values, and messages that come back.
 use crate::{SecretKey, decode, encrypt_into, phase, unit};
 use rx_params::named;
 use rx_torus::Stream;

@@ -1,4 +1,4 @@
-// Worked values, and a ciphertext that keeps its number under the small key.
+//! Worked values, and a ciphertext that keeps its number under the small key.
 use crate::{
     SecretKey, SwitchKey, add_scaled, decode, encrypt_into, mod_switch, phase, switch_into, unit,
 };

@@ -1,12 +1,9 @@
-use Rattle.std.proofs.Common.{ℕ, ◌+◌, ◌-◌, ◌*◌, ◌≤◌, ◌<◌, ◌^◌, ◌∙◌, arith}
-use Rattle.std.proofs.Math.Nat.{mul-le-mul_right}
+use Rattle.std.proofs.Common.{ℕ, ◌+◌, ◌-◌, ◌*◌, ◌∙◌, arith}
 use Rattle.rx_ring.specs.Polynomial.{turns}
-use Rattle.rx_params.specs.declared.params.Params.{Params}
-use Rattle.rx_params.specs.Acceptance.{Accepts}
+use Rattle.rx_lwe.proofs.Made.{row_room}
 use Rattle.rx_glwe.specs.Sizes.{ggsw_size}
-use Rattle.rx_boot.specs.BootKeys.{boot_size}
 use Rattle.rx_boot.specs.Bootstrap.{marks, table_accumulator}
-use Rattle.rx_boot.proofs.MadeKeys.{all_words}
+use Rattle.rx_boot.proofs.MadeKeys.{boot_size-few}
 use Rattle.rx_boot.proofs.Turning.{start_are, turned_once}
 use Rattle.rx_boot.proofs.rotation.rotate.Goals as goal
 
@@ -17,21 +14,15 @@ loop-i-init c = record {
   room = c.requires.product_room;
 }
 
-small_key_of : (p : Params) → Accepts p → boot_size p ≤ 2 ^ 24
-small_key_of p accepted = omega (arith, all_words p, accepted.key)
-
-within : (i d width : ℕ) → i < d → i * width + width ≤ d * width
-within i d width p = let room : (i + 1) * width ≤ d * width = mul-le-mul_right width (omega arith) in omega arith
-
 pub offset_bounds-rows-i : goal.offset_bounds-rows-i
 offset_bounds-rows-i c =
     let p = c.args.p.now in
-    record { fits = omega (arith, within c.loop-i.i p.lwe_dim (ggsw_size p) (omega arith), small_key_of p c.requires.accepted) }
+    record { fits = omega (arith, row_room c.loop-i.i p.lwe_dim (ggsw_size p) (omega arith), boot_size-few p c.requires.accepted) }
 
 pub slice_bounds-bit-end : goal.slice_bounds-bit-end
 slice_bounds-bit-end c =
     let p = c.args.p.now in
-    omega (arith, within c.loop-i.i p.lwe_dim (ggsw_size p) (omega arith), c.requires.rows_size)
+    omega (arith, row_room c.loop-i.i p.lwe_dim (ggsw_size p) (omega arith), c.requires.rows_size)
 
 pub loop-i-preserved : goal.loop-i-preserved
 loop-i-preserved c =
