@@ -2,7 +2,10 @@
 use Rattle.std.proofs.Common.{◌≡◌, ℕ, ℤ, suc, ◌+◌, ◌<◌, ◌≤◌, List, [], ◌∷◌, ◌++◌, length, get_or, map, Bool, true, false, refl, sym, ◌∙◌, ap, arith, subst, length-append, add-one, Option, Some, None, eq-eqb}
 use Rattle.std.specs.Prelude.{◌&&◌, ◌||◌, ◌==◌, not, nat_le, nat_lt, IsTrue}
 use Rattle.std.proofs.lemmas.List.{get_or_append_left}
+use Rattle.std.specs.Option.{option_or}
+use Rattle.std.proofs.lemmas.Bool.{and_parts}
 use Rattle.rx_params.specs.Kinds.{greatest, block_count, is_form}
+use Rattle.rx_params.proofs.Refusals.{two_or_three}
 use Rattle.rx_net.specs.declared.term.Term.{Term}
 use Rattle.rx_net.specs.declared.net.Job.{Job}
 use Rattle.rx_net.specs.declared.net.NetInput.{NetInput}
@@ -11,16 +14,16 @@ use Rattle.rx_net.specs.declared.net.Net.{Net}
 use Rattle.rx_net.specs.declared.fault.NetFault.{NetFault}
 use Rattle.rx_net.specs.declared.fault.NetFault.TheVariants.{Degree, Output}
 use Rattle.rx_net.specs.Tags.{value_of, greatest_of, natural}
-use Rattle.rx_net.specs.Cells.{input_cells, cell_count, given, laid, looked_up, declared_degree, unit_noise, one_deeper, values_after, degrees_after, noises_after, depths_after, value, degree, noise, depth, Within}
+use Rattle.rx_net.specs.Cells.{input_cells, cell_count, given, laid, job_value, declared_degree, unit_noise, one_deeper, values_after, degrees_after, noises_after, depths_after, value, degree, noise, depth, Within}
 use Rattle.rx_net.specs.Legal.{InTurn, is_input, names_output, are_cells, is_output, reached, JobFits, Legal, WithinLimits}
-use Rattle.rx_net.specs.Faults.{first_of, first_in_turn, limit, input_fault, terms_fault, new_fault, job_fault, output_fault, limit_fault, fault_of}
+use Rattle.rx_net.specs.Faults.{first_in_turn, limit, input_fault, terms_fault, new_fault, job_fault, output_fault, limit_fault, fault_of}
 use Rattle.rx_net.specs.Pen.{with_input, new_job, with_job, with_output}
 use Rattle.rx_net.specs.Growth.{Extends, AddsJob}
 use Rattle.rx_net.proofs.Laid.{laid_kept, laid_new}
 use Rattle.rx_net.proofs.Inputs.{length-given, given-append}
-use Rattle.rx_net.proofs.Faults.{of_last, of_none, of_some, passes, fails, turn_last, and_both, all_from_test, test_from_all, none_from_turn}
+use Rattle.rx_net.proofs.Faults.{of_last, of_none, of_some, passes, fails, turn_last, all_from_test, test_from_all, none_from_turn}
 use Rattle.rx_net.proofs.Fits.{none_from_fits, nat_lt_yes, nat_lt_is, nat_le_yes, nat_le_is}
-use Rattle.rx_net.proofs.NoFault.{limit_is, space_is, inputs_none, terms_none, jobs_none, outputs_none, none_from_output, legal_from_none}
+use Rattle.rx_net.proofs.NoFault.{limit_is, inputs_none, terms_none, jobs_none, outputs_none, none_from_output, legal_from_none}
 use Rattle.rx_net.proofs.Bounded.{bounded_from_legal}
 
 -- ---- outputs stay lawful where cells and degrees stay
@@ -30,7 +33,7 @@ cells_stay count more old new most cs g s h =
     let test = λ (c : ℕ). nat_lt c count && nat_le (old c) most in
     let test' = λ (c : ℕ). nat_lt c more && nat_le (new c) most in
     test_from_all test' (λ c. test c ≡ true) (λ c p.
-    let b = and_both (nat_lt c count) (nat_le (old c) most) p in
+    let b = and_parts (nat_lt c count) (nat_le (old c) most) p in
     let l : c < count = nat_lt_yes c count b.0 in
     let d : old c ≤ most = nat_le_yes (old c) most b.1 in
     let e : new c ≡ old c = s c l in
@@ -41,9 +44,9 @@ output_stays : (space count more : ℕ) (old new : ℕ → ℕ) → count ≤ mo
     → (before : List NetOutput) (o : NetOutput) → IsTrue (is_output space count old before o) → IsTrue (is_output space more new before o)
 output_stays space count more old new g s before o h =
     let most : ℕ = greatest o.kind space in
-    let a = and_both (is_form space o.kind o.bits) ((length o.cells == block_count o.kind space o.bits) && (not (names_output o.name before) && are_cells count old most o.cells)) h in
-    let b = and_both (length o.cells == block_count o.kind space o.bits) (not (names_output o.name before) && are_cells count old most o.cells) a.1 in
-    let d = and_both (not (names_output o.name before)) (are_cells count old most o.cells) b.1 in
+    let a = and_parts (is_form space o.kind o.bits) ((length o.cells == block_count o.kind space o.bits) && (not (names_output o.name before) && are_cells count old most o.cells)) h in
+    let b = and_parts (length o.cells == block_count o.kind space o.bits) (not (names_output o.name before) && are_cells count old most o.cells) a.1 in
+    let d = and_parts (not (names_output o.name before)) (are_cells count old most o.cells) b.1 in
     ap (λ x. x && ((length o.cells == block_count o.kind space o.bits) && (not (names_output o.name before) && are_cells more new most o.cells))) a.0
     ∙ ap (λ x. x && (not (names_output o.name before) && are_cells more new most o.cells)) b.0
     ∙ ap (λ x. x && are_cells more new most o.cells) d.0
@@ -74,13 +77,13 @@ input_degrees net i e c p =
     let olds = λ (js : List Job). get_or (laid declared_degree ds js) c 0 in
     ap jobs e ∙ ap (λ l. get_or l c 0) (given-append net.space (λ i. i.degree) net.inputs (i ∷ [])) ∙ get_or_append_left ds (given net.space (λ i. i.degree) (i ∷ [])) 0 c l ∙ sym (ap olds e)
 
-three_last : (a b : Option NetFault) → first_of (first_of a (first_of b None)) None ≡ first_of a b
+three_last : (a b : Option NetFault) → option_or (option_or a (option_or b None)) None ≡ option_or a b
 three_last None None = refl
 three_last None (Some g) = refl
 three_last (Some f) b = refl
 
 pub input_first : (net : Net) (i : NetInput) → Legal net → net.jobs ≡ []
-    → fault_of (with_input net i) ≡ first_of (limit (nat_le (length net.inputs + 1) 64) 2 (length net.inputs + 1)) (input_fault net.space net.inputs i)
+    → fault_of (with_input net i) ≡ option_or (limit (nat_le (length net.inputs + 1) 64) 2 (length net.inputs + 1)) (input_fault net.space net.inputs i)
 unfolding fault_of limit_fault
 input_first net i l e =
     let n : length (net.inputs ++ i ∷ []) ≡ length net.inputs + 1 = length-append net.inputs (i ∷ []) in
@@ -92,7 +95,7 @@ input_first net i l e =
     outputs_stay net.space (cell_count net) (cell_count (with_input net i)) (degree net) (degree (with_input net i)) (input_cell_count net i) (input_degrees net i e) [] net.outputs l.outputs in
     let count : Option NetFault = limit (nat_le (length net.inputs + 1) 64) 2 (length net.inputs + 1) in
     rw (
-      limit_is ((net.space == 2) || (net.space == 3)) 1 net.space (space_is net.space w.space),
+      limit_is ((net.space == 2) || (net.space == 3)) 1 net.space (two_or_three net.space w.space),
       n,
       t,
       limit_is (nat_le (length net.jobs) 65536) 4 (length net.jobs) (nat_le_is (length net.jobs) 65536 w.few_jobs),
@@ -107,7 +110,7 @@ new_job_fault : (net : Net) (ts : List Term) (k : ℤ) (table : List ℕ) → jo
 unfolding job_fault degree
 new_job_fault net ts k table =
     let r : ℕ = reached (λ c. get_or (degrees_after net.space net.inputs net.jobs) c 0) ts k table in
-    ap (first_of (new_fault net.space net.inputs net.jobs ts k table)) (passes (r == r) (Degree (length net.jobs) r r) [] (eq-eqb r r refl))
+    ap (option_or (new_fault net.space net.inputs net.jobs ts k table)) (passes (r == r) (Degree (length net.jobs) r r) [] (eq-eqb r r refl))
     ∙ of_last (new_fault net.space net.inputs net.jobs ts k table)
 
 job_cell_count : (net : Net) (j : Job) → cell_count (record net { jobs = net.jobs ++ j ∷ [] }) ≡ suc (cell_count net)
@@ -128,7 +131,7 @@ job_depths net j c p = laid_kept one_deeper (given net.space (λ i. 0) net.input
 
 job_values : (net : Net) (j : Job) (xs : List ℕ) → Within net.space net.inputs xs → (c : ℕ) → c < cell_count net → value (record net { jobs = net.jobs ++ j ∷ [] }) xs c ≡ value net xs c
 unfolding value values_after cell_count
-job_values net j xs w c p = laid_kept looked_up xs net.jobs j 0 c (omega (arith, w.count))
+job_values net j xs w c p = laid_kept job_value xs net.jobs j 0 c (omega (arith, w.count))
 
 job_extends : (net : Net) (j : Job) → Extends net (record net { jobs = net.jobs ++ j ∷ [] })
 job_extends net j = record {
@@ -157,8 +160,8 @@ new_depth net j = laid_new one_deeper (given net.space (λ i. 0) net.inputs) net
 
 new_value : (net : Net) (j : Job) (xs : List ℕ) → Within net.space net.inputs xs
     → value (record net { jobs = net.jobs ++ j ∷ [] }) xs (cell_count net) ≡ get_or j.table (natural (value_of (value net xs) j.constant j.terms)) 0
-unfolding value values_after cell_count looked_up
-new_value net j xs w = laid_new looked_up xs net.jobs j 0 (input_cells net.space net.inputs + length net.jobs) (omega (arith, w.count))
+unfolding value values_after cell_count job_value
+new_value net j xs w = laid_new job_value xs net.jobs j 0 (input_cells net.space net.inputs + length net.jobs) (omega (arith, w.count))
 
 -- the whole of what a lawful job adds
 pub job_adds : (net : Net) (ts : List Term) (k : ℤ) (table : List ℕ) (c : ℕ) → Legal (with_job net ts k table) → c ≡ cell_count net → AddsJob net (with_job net ts k table) c ts k table
@@ -176,18 +179,18 @@ job_adds net ts k table c l e =
       bounded = bounded_from_legal new l;
     }
 
-three_parts : (a b d : Option NetFault) → first_of (first_of a (first_of b None)) (first_of d None) ≡ first_of a (first_of b d)
+three_parts : (a b d : Option NetFault) → option_or (option_or a (option_or b None)) (option_or d None) ≡ option_or a (option_or b d)
 three_parts None None d = of_last d
 three_parts None (Some g) d = refl
 three_parts (Some f) b d = refl
 
 job_limits : (net : Net) (j : Job) → WithinLimits net → (b : Option NetFault) → first_in_turn terms_fault [] (net.jobs ++ j ∷ []) ≡ b
-    → limit_fault net.space net.inputs (net.jobs ++ j ∷ []) net.outputs ≡ first_of (limit (nat_le (length net.jobs + 1) 65536) 4 (length net.jobs + 1)) (first_of b None)
+    → limit_fault net.space net.inputs (net.jobs ++ j ∷ []) net.outputs ≡ option_or (limit (nat_le (length net.jobs + 1) 65536) 4 (length net.jobs + 1)) (option_or b None)
 unfolding limit_fault
 job_limits net j w b t =
     let n : length (net.jobs ++ j ∷ []) ≡ length net.jobs + 1 = length-append net.jobs (j ∷ []) in
     rw (
-      limit_is ((net.space == 2) || (net.space == 3)) 1 net.space (space_is net.space w.space),
+      limit_is ((net.space == 2) || (net.space == 3)) 1 net.space (two_or_three net.space w.space),
       limit_is (nat_le (length net.inputs) 64) 2 (length net.inputs) (nat_le_is (length net.inputs) 64 w.few_inputs),
       inputs_none net w,
       n,
@@ -196,8 +199,8 @@ job_limits net j w b t =
     ) refl
 
 pub job_first : (net : Net) (ts : List Term) (k : ℤ) (table : List ℕ) → Legal net
-    → fault_of (with_job net ts k table) ≡ first_of (limit (nat_le (length net.jobs + 1) 65536) 4 (length net.jobs + 1))
-    (first_of (limit (nat_le (length ts) 16) 5 (length net.jobs)) (new_fault net.space net.inputs net.jobs ts k table))
+    → fault_of (with_job net ts k table) ≡ option_or (limit (nat_le (length net.jobs + 1) 65536) 4 (length net.jobs + 1))
+    (option_or (limit (nat_le (length ts) 16) 5 (length net.jobs)) (new_fault net.space net.inputs net.jobs ts k table))
 unfolding fault_of limit_fault
 job_first net ts k table l =
     let j : Job = new_job net ts k table in
@@ -212,16 +215,16 @@ job_first net ts k table l =
     let a : Option NetFault = limit (nat_le (length net.jobs + 1) 65536) 4 (length net.jobs + 1) in
     let b : Option NetFault = limit (nat_le (length ts) 16) 5 (length net.jobs) in
     let d : Option NetFault = new_fault net.space net.inputs net.jobs ts k table in
-    let heads : limit_fault net.space net.inputs (net.jobs ++ j ∷ []) net.outputs ≡ first_of a (first_of b None) =
+    let heads : limit_fault net.space net.inputs (net.jobs ++ j ∷ []) net.outputs ≡ option_or a (option_or b None) =
     job_limits net j w b t in
-    ap (λ x. first_of x (first_of (first_in_turn (job_fault net.space net.inputs) [] (net.jobs ++ j ∷ [])) (first_in_turn (output_fault net.space (cell_count new) (degree new)) [] net.outputs))) heads
-    ∙ ap (λ x. first_of (first_of a (first_of b None)) (first_of x (first_in_turn (output_fault net.space (cell_count new) (degree new)) [] net.outputs))) f
-    ∙ ap (λ x. first_of (first_of a (first_of b None)) (first_of d x)) o
+    ap (λ x. option_or x (option_or (first_in_turn (job_fault net.space net.inputs) [] (net.jobs ++ j ∷ [])) (first_in_turn (output_fault net.space (cell_count new) (degree new)) [] net.outputs))) heads
+    ∙ ap (λ x. option_or (option_or a (option_or b None)) (option_or x (first_in_turn (output_fault net.space (cell_count new) (degree new)) [] net.outputs))) f
+    ∙ ap (λ x. option_or (option_or a (option_or b None)) (option_or d x)) o
     ∙ three_parts a b d
 
 -- ---- one output more
 pub output_first : (net : Net) (o : NetOutput) → Legal net
-    → fault_of (with_output net o) ≡ first_of (limit (nat_le (length net.outputs + 1) 64) 6 (length net.outputs + 1)) (output_fault net.space (cell_count net) (degree net) net.outputs o)
+    → fault_of (with_output net o) ≡ option_or (limit (nat_le (length net.outputs + 1) 64) 6 (length net.outputs + 1)) (output_fault net.space (cell_count net) (degree net) net.outputs o)
 unfolding fault_of limit_fault cell_count degree
 output_first net o l =
     let n : length (net.outputs ++ o ∷ []) ≡ length net.outputs + 1 = length-append net.outputs (o ∷ []) in
@@ -229,7 +232,7 @@ output_first net o l =
     let t : first_in_turn (output_fault net.space (cell_count net) (degree net)) [] (net.outputs ++ o ∷ []) ≡ output_fault net.space (cell_count net) (degree net) net.outputs o =
     turn_last (output_fault net.space (cell_count net) (degree net)) [] net.outputs o (outputs_none net l) in
     rw (
-      limit_is ((net.space == 2) || (net.space == 3)) 1 net.space (space_is net.space w.space),
+      limit_is ((net.space == 2) || (net.space == 3)) 1 net.space (two_or_three net.space w.space),
       limit_is (nat_le (length net.inputs) 64) 2 (length net.inputs) (nat_le_is (length net.inputs) 64 w.few_inputs),
       inputs_none net w,
       limit_is (nat_le (length net.jobs) 65536) 4 (length net.jobs) (nat_le_is (length net.jobs) 65536 w.few_jobs),
@@ -244,10 +247,10 @@ lt_is_le : (a b : ℕ) → nat_le (a + 1) b ≡ nat_lt a b
 lt_is_le a b = ap (λ n. nat_le n b) (add-one a)
 
 module _ (net : Net) (i : NetInput) (l : Legal net) (j : net.jobs ≡ []) (is : List NetInput) (e : is ≡ net.inputs) where
-  input_is : fault_of (with_input net i) ≡ first_of (limit (nat_lt (length is) 64) 2 (length is + 1)) (input_fault net.space is i)
+  input_is : fault_of (with_input net i) ≡ option_or (limit (nat_lt (length is) 64) 2 (length is + 1)) (input_fault net.space is i)
   input_is = input_first net i l j
-      ∙ ap (λ b. first_of (limit b 2 (length net.inputs + 1)) (input_fault net.space net.inputs i)) (lt_is_le (length net.inputs) 64)
-      ∙ ap (λ is. first_of (limit (nat_lt (length is) 64) 2 (length is + 1)) (input_fault net.space is i)) (sym e)
+      ∙ ap (λ b. option_or (limit b 2 (length net.inputs + 1)) (input_fault net.space net.inputs i)) (lt_is_le (length net.inputs) 64)
+      ∙ ap (λ is. option_or (limit (nat_lt (length is) 64) 2 (length is + 1)) (input_fault net.space is i)) (sym e)
 
   pub input_many : (x : NetFault) → limit (nat_lt (length is) 64) 2 (length is + 1) ≡ Some x → fault_of (with_input net i) ≡ Some x
   input_many x h = input_is ∙ of_some (limit (nat_lt (length is) 64) 2 (length is + 1)) (input_fault net.space is i) x h
@@ -257,14 +260,14 @@ module _ (net : Net) (i : NetInput) (l : Legal net) (j : net.jobs ≡ []) (is : 
 
 module _ (net : Net) (l : Legal net) (ts : List Term) (k : ℤ) (table : List ℕ) (is : List NetInput) (js : List Job) (e : is ≡ net.inputs) (f : js ≡ net.jobs) where
   rest_is : Option NetFault
-  rest_is = first_of (limit (nat_le (length ts) 16) 5 (length js)) (new_fault net.space is js ts k table)
+  rest_is = option_or (limit (nat_le (length ts) 16) 5 (length js)) (new_fault net.space is js ts k table)
 
-  job_is : fault_of (with_job net ts k table) ≡ first_of (limit (nat_lt (length js) 65536) 4 (length js + 1)) rest_is
+  job_is : fault_of (with_job net ts k table) ≡ option_or (limit (nat_lt (length js) 65536) 4 (length js + 1)) rest_is
   unfolding rest_is
   job_is = job_first net ts k table l
-      ∙ ap (λ b. first_of (limit b 4 (length net.jobs + 1)) (first_of (limit (nat_le (length ts) 16) 5 (length net.jobs)) (new_fault net.space net.inputs net.jobs ts k table))) (lt_is_le (length net.jobs) 65536)
-      ∙ ap (λ js. first_of (limit (nat_lt (length js) 65536) 4 (length js + 1)) (first_of (limit (nat_le (length ts) 16) 5 (length js)) (new_fault net.space net.inputs js ts k table))) (sym f)
-      ∙ ap (λ is. first_of (limit (nat_lt (length js) 65536) 4 (length js + 1)) (first_of (limit (nat_le (length ts) 16) 5 (length js)) (new_fault net.space is js ts k table))) (sym e)
+      ∙ ap (λ b. option_or (limit b 4 (length net.jobs + 1)) (option_or (limit (nat_le (length ts) 16) 5 (length net.jobs)) (new_fault net.space net.inputs net.jobs ts k table))) (lt_is_le (length net.jobs) 65536)
+      ∙ ap (λ js. option_or (limit (nat_lt (length js) 65536) 4 (length js + 1)) (option_or (limit (nat_le (length ts) 16) 5 (length js)) (new_fault net.space net.inputs js ts k table))) (sym f)
+      ∙ ap (λ is. option_or (limit (nat_lt (length js) 65536) 4 (length js + 1)) (option_or (limit (nat_le (length ts) 16) 5 (length js)) (new_fault net.space is js ts k table))) (sym e)
 
   pub job_many : (x : NetFault) → limit (nat_lt (length js) 65536) 4 (length js + 1) ≡ Some x → fault_of (with_job net ts k table) ≡ Some x
   job_many x h = job_is ∙ of_some (limit (nat_lt (length js) 65536) 4 (length js + 1)) rest_is x h
@@ -289,10 +292,10 @@ module _ (net : Net) (l : Legal net) (ts : List Term) (k : ℤ) (table : List �
   noises_lent = ap (λ is. λ (c : ℕ). get_or (noises_after net.space is js) c 0) e ∙ ap (λ js. λ (c : ℕ). get_or (noises_after net.space net.inputs js) c 0) f
 
 module _ (net : Net) (l : Legal net) (o : NetOutput) (os : List NetOutput) (e : os ≡ net.outputs) where
-  output_is : fault_of (with_output net o) ≡ first_of (limit (nat_lt (length os) 64) 6 (length os + 1)) (output_fault net.space (cell_count net) (degree net) os o)
+  output_is : fault_of (with_output net o) ≡ option_or (limit (nat_lt (length os) 64) 6 (length os + 1)) (output_fault net.space (cell_count net) (degree net) os o)
   output_is = output_first net o l
-      ∙ ap (λ b. first_of (limit b 6 (length net.outputs + 1)) (output_fault net.space (cell_count net) (degree net) net.outputs o)) (lt_is_le (length net.outputs) 64)
-      ∙ ap (λ os. first_of (limit (nat_lt (length os) 64) 6 (length os + 1)) (output_fault net.space (cell_count net) (degree net) os o)) (sym e)
+      ∙ ap (λ b. option_or (limit b 6 (length net.outputs + 1)) (output_fault net.space (cell_count net) (degree net) net.outputs o)) (lt_is_le (length net.outputs) 64)
+      ∙ ap (λ os. option_or (limit (nat_lt (length os) 64) 6 (length os + 1)) (output_fault net.space (cell_count net) (degree net) os o)) (sym e)
 
   pub output_many : (x : NetFault) → limit (nat_lt (length os) 64) 6 (length os + 1) ≡ Some x → fault_of (with_output net o) ≡ Some x
   output_many x h = output_is ∙ of_some (limit (nat_lt (length os) 64) 6 (length os + 1)) (output_fault net.space (cell_count net) (degree net) os o) x h
@@ -331,7 +334,7 @@ unfolding degree noise cell_count new_fault
 fits_fault net ts k table l room few f =
     let new : Option NetFault = new_fault net.space net.inputs net.jobs ts k table in
     job_first net ts k table l
-    ∙ of_none (limit (nat_le (length net.jobs + 1) 65536) 4 (length net.jobs + 1)) (first_of (limit (nat_le (length ts) 16) 5 (length net.jobs)) new)
+    ∙ of_none (limit (nat_le (length net.jobs + 1) 65536) 4 (length net.jobs + 1)) (option_or (limit (nat_le (length ts) 16) 5 (length net.jobs)) new)
     (limit_is (nat_le (length net.jobs + 1) 65536) 4 (length net.jobs + 1) (nat_le_is (length net.jobs + 1) 65536 (omega arith)))
     ∙ of_none (limit (nat_le (length ts) 16) 5 (length net.jobs)) new (limit_is (nat_le (length ts) 16) 5 (length net.jobs) (nat_le_is (length ts) 16 few))
     ∙ none_from_fits net.space (length net.jobs) (input_cells net.space net.inputs + length net.jobs) (λ c. get_or (degrees_after net.space net.inputs net.jobs) c 0)

@@ -9,13 +9,13 @@ use Rattle.rx_net.specs.declared.net.Job.{Job}
 use Rattle.rx_net.specs.declared.net.NetInput.{NetInput}
 use Rattle.rx_net.specs.declared.net.Net.{Net}
 use Rattle.rx_net.specs.Tags.{value_of, greatest_of, natural}
-use Rattle.rx_net.specs.Cells.{input_cells, given, laid, looked_up, one_deeper, values_after, degrees_after, depths_after, net_depth, Within}
+use Rattle.rx_net.specs.Cells.{input_cells, given, laid, job_value, one_deeper, values_after, degrees_after, depths_after, net_depth, Within}
 use Rattle.rx_net.specs.Legal.{InTurn, IsJob, Legal}
 use Rattle.rx_net.proofs.Laid.{length-laid, laid-last}
 use Rattle.rx_net.proofs.Inputs.{length-given}
 use Rattle.rx_net.proofs.Sums.{sum_goes_on, sum_ends}
 use Rattle.rx_net.proofs.Faults.{turn_at}
-use Rattle.rx_net.proofs.Bounded.{LooksUp, looks_up, AreWithin, within_all, within_first}
+use Rattle.rx_net.proofs.Bounded.{greatest_at, LooksUp, looks_up, AreWithin, within_all, within_first}
 
 -- ---- a weighted sum
 pub record IsSumUpTo (value : ℕ → ℕ) (constant : ℤ) (ts : List Term) (i : ℕ) (sum : ℤ) : Type 0 where
@@ -36,12 +36,6 @@ pub sum_done : (value : ℕ → ℕ) (constant z : ℤ) (ts : List Term) (i : �
 sum_done value constant z ts i sum h e p = sym (sum_ends (λ t. t.weight *ℤ pos (value t.cell)) sum ts i p) ∙ h.sum_is ∙ ap (λ k. value_of value k ts) e
 
 -- ---- the greatest depth of terms
-greatest_at : (xs : List ℕ) (i : ℕ) → i < length xs → get_or xs i 0 ≤ greatest_of xs
-unfolding greatest_of
-greatest_at [] i p = absurd (omega arith)
-greatest_at (x ∷ xs) zero p = omega arith
-greatest_at (x ∷ xs) (suc i) p = omega (arith, greatest_at xs i (omega arith))
-
 pub record IsDeepestUpTo (depths : List ℕ) (ts : List Term) (i most : ℕ) : Type 0 where
   pub most_is : max most (greatest_of (map (λ t. get_or depths t.cell 0) (drop i ts))) ≡ greatest_of (map (λ t. get_or depths t.cell 0) ts)
   pub within : most ≤ greatest_of depths
@@ -70,22 +64,22 @@ deepest_done depths ts i most h p =
 
 -- ---- values
 pub values_more : (xs : List ℕ) (js : List Job) (i : ℕ) (j : Job) → i < length js → j ≡ get_or js i j
-    → values_after xs (take (i + 1) js) ≡ values_after xs (take i js) ++ looked_up j (values_after xs (take i js)) ∷ []
+    → values_after xs (take (i + 1) js) ≡ values_after xs (take i js) ++ job_value j (values_after xs (take i js)) ∷ []
 unfolding values_after
 values_more xs js i j p e =
     let t : take (i + 1) js ≡ take i js ++ j ∷ [] = take_more js i j p ∙ ap (λ y. take i js ++ y ∷ []) (sym e) in
-    ap (laid looked_up xs) t ∙ laid-last looked_up xs (take i js) j
+    ap (laid job_value xs) t ∙ laid-last job_value xs (take i js) j
 
 pub length-values : (xs : List ℕ) (js : List Job) → length (values_after xs js) ≡ length xs + length js
 unfolding values_after
-length-values xs js = length-laid looked_up xs js
+length-values xs js = length-laid job_value xs js
 
 pub values_begin : (xs : List ℕ) → values_after xs [] ≡ xs
 unfolding values_after laid
 values_begin xs = refl
 
-pub looked_up_is : (j : Job) (xs : List ℕ) → get_or j.table (natural (value_of (λ c. get_or xs c 0) j.constant j.terms)) 0 ≡ looked_up j xs
-unfolding looked_up
+pub looked_up_is : (j : Job) (xs : List ℕ) → get_or j.table (natural (value_of (λ c. get_or xs c 0) j.constant j.terms)) 0 ≡ job_value j xs
+unfolding job_value
 looked_up_is j xs = refl
 
 turn_take : {A : Type 0} (P : List A → A → Type 0) (before xs : List A) (i : ℕ) → InTurn P before xs → InTurn P before (take i xs)

@@ -10,7 +10,7 @@ use Rattle.rx_net.specs.declared.net.NetOutput.{NetOutput}
 use Rattle.rx_net.specs.declared.net.Net.{Net}
 use Rattle.rx_net.specs.declared.fault.NetFault.TheVariants.{Forward, Range, Noise, Table, Degree, Output, Limit}
 use Rattle.rx_net.specs.Tags.{low_of, high_of, noise_of, value_of, greatest_of, greatest_between}
-use Rattle.rx_net.specs.Cells.{input_cells, cell_count, given, laid, looked_up, one_deeper, values_after, degrees_after, noises_after, depths_after, value, degree, noise, depth, net_depth, cells_of}
+use Rattle.rx_net.specs.Cells.{input_cells, cell_count, given, laid, job_value, one_deeper, values_after, degrees_after, noises_after, depths_after, value, degree, noise, depth, net_depth, cells_of}
 use Rattle.rx_net.specs.Faults.{limit_fault, new_fault, job_fault, fault_of}
 use Rattle.rx_net.specs.Pen.{new_job}
 
@@ -121,11 +121,11 @@ sum_lawful = refl
 
 -- 7 is 3 and 1, 6 is 2 and 1; their sum 13 is 1 and 3
 sum_values : values_after (3 ∷ 1 ∷ 2 ∷ 1 ∷ []) sum_net.jobs ≡ 3 ∷ 1 ∷ 2 ∷ 1 ∷ 1 ∷ 1 ∷ 3 ∷ []
-unfolding values_after laid looked_up
+unfolding values_after laid job_value
 sum_values = refl
 
 sum_cells : (cell_count sum_net ≡ 7) × (value sum_net (3 ∷ 1 ∷ 2 ∷ 1 ∷ []) 6 ≡ 3) × (degree sum_net 4 ≡ 1) × (noise sum_net 6 ≡ 1) × (depth sum_net 5 ≡ 1) × (depth sum_net 6 ≡ 2) × (net_depth sum_net ≡ 2)
-unfolding cell_count input_cells given laid looked_up one_deeper values_after degrees_after noises_after depths_after value degree noise depth net_depth greatest_of
+unfolding cell_count input_cells given laid job_value one_deeper values_after degrees_after noises_after depths_after value degree noise depth net_depth greatest_of
 sum_cells = (refl, refl, refl, refl, refl, refl, refl)
 
 -- a net without jobs has depth 0, a job without terms depth 1

@@ -2,16 +2,18 @@
 use Rattle.std.proofs.Common.{◌≡◌, ℕ, zero, suc, ◌+◌, ◌<◌, ◌≤◌, List, [], ◌∷◌, ◌++◌, length, get_or, take, drop, Bool, true, false, refl, sym, ◌∙◌, ap, arith, subst, drop-cons, add-one, append_assoc, append-nil, Option, Some, None, Result, Err}
 use Rattle.std.specs.Prelude.{◌&&◌}
 use Rattle.std.specs.List.{list_all, AllByRecursion}
+use Rattle.std.proofs.lemmas.Bool.{and_parts}
 use Rattle.std.proofs.lemmas.List.{drop_all, take_more}
+use Rattle.std.specs.Option.{option_or}
 use Rattle.rx_net.specs.declared.fault.NetFault.{NetFault}
 use Rattle.rx_net.specs.Legal.{InTurn}
-use Rattle.rx_net.specs.Faults.{first_of, first_failing, first_in_turn, Answers}
+use Rattle.rx_net.specs.Faults.{first_failing, first_in_turn, TellsFault}
 
-pub of_some : (first second : Option NetFault) (f : NetFault) → first ≡ Some f → first_of first second ≡ Some f
-of_some first second f e = ap (λ x. first_of x second) e
+pub of_some : (first second : Option NetFault) (f : NetFault) → first ≡ Some f → option_or first second ≡ Some f
+of_some first second f e = ap (λ x. option_or x second) e
 
-pub of_none : (first second : Option NetFault) → first ≡ None → first_of first second ≡ second
-of_none first second e = ap (λ x. first_of x second) e
+pub of_none : (first second : Option NetFault) → first ≡ None → option_or first second ≡ second
+of_none first second e = ap (λ x. option_or x second) e
 
 pub fails : (test : Bool) (f : NetFault) (tests : List (Bool × NetFault)) → test ≡ false → first_failing ((test, f) ∷ tests) ≡ Some f
 fails test f tests e = ap (λ t. first_failing ((t, f) ∷ tests)) e
@@ -20,7 +22,7 @@ pub passes : (test : Bool) (f : NetFault) (tests : List (Bool × NetFault)) → 
 passes test f tests e = ap (λ t. first_failing ((t, f) ∷ tests)) e
 
 -- ---- none
-pub both_none : (first second : Option NetFault) → first_of first second ≡ None → (first ≡ None) × (second ≡ None)
+pub both_none : (first second : Option NetFault) → option_or first second ≡ None → (first ≡ None) × (second ≡ None)
 both_none None second e = (refl, e)
 both_none (Some f) second e = cc
 
@@ -28,19 +30,19 @@ pub none_fails : (test : Bool) (f : NetFault) (tests : List (Bool × NetFault)) 
 none_fails true f tests e = (refl, e)
 none_fails false f tests e = cc
 
-pub of_last : (first : Option NetFault) → first_of first None ≡ first
+pub of_last : (first : Option NetFault) → option_or first None ≡ first
 of_last None = refl
 of_last (Some f) = refl
 
 -- ---- in turn
 module _ {A : Type 0} (fault : List A → A → Option NetFault) where
   pub turn_next : (xs : List A) (i : ℕ) (x : A) → i < length xs → x ≡ get_or xs i x
-      → first_in_turn fault (take i xs) (drop i xs) ≡ first_of (fault (take i xs) x) (first_in_turn fault (take (i + 1) xs) (drop (i + 1) xs))
+      → first_in_turn fault (take i xs) (drop i xs) ≡ option_or (fault (take i xs) x) (first_in_turn fault (take (i + 1) xs) (drop (i + 1) xs))
   turn_next xs i x p e =
       let d : drop i xs ≡ get_or xs i x ∷ drop (suc i) xs = drop-cons xs i x p in
       let d' : drop i xs ≡ x ∷ drop (i + 1) xs = rw add-one (d ∙ ap (λ y. y ∷ drop (suc i) xs) (sym e)) in
       let t : take (i + 1) xs ≡ take i xs ++ x ∷ [] = take_more xs i x p ∙ ap (λ y. take i xs ++ y ∷ []) (sym e) in
-      ap (first_in_turn fault (take i xs)) d' ∙ ap (λ ys. first_of (fault (take i xs) x) (first_in_turn fault ys (drop (i + 1) xs))) (sym t)
+      ap (first_in_turn fault (take i xs)) d' ∙ ap (λ ys. option_or (fault (take i xs) x) (first_in_turn fault ys (drop (i + 1) xs))) (sym t)
 
   pub turn_goes_on : (xs : List A) (i : ℕ) (x : A) → i < length xs → x ≡ get_or xs i x → fault (take i xs) x ≡ None
       → (r : Option NetFault) → first_in_turn fault (take i xs) (drop i xs) ≡ r → first_in_turn fault (take (i + 1) xs) (drop (i + 1) xs) ≡ r
@@ -94,18 +96,14 @@ turn_more Lawful before [] x h l = (subst (λ zs. Lawful zs x) (append-nil befor
 turn_more Lawful before (y ∷ ys) x h l = (h.0, turn_more Lawful (before ++ y ∷ []) ys x h.1 (subst (λ zs. Lawful zs x) (sym (append_assoc before (y ∷ []) ys)) l))
 
 -- ---- tests
-pub and_both : (a b : Bool) → (a && b) ≡ true → (a ≡ true) × (b ≡ true)
-and_both true b e = (refl, e)
-and_both false b e = cc
-
 pub all_from_test : {A : Type 0} (test : A → Bool) (P : A → Type 0) → ((x : A) → test x ≡ true → P x) → (xs : List A) → list_all test xs ≡ true → AllByRecursion P xs
 all_from_test test P says [] e = tt
-all_from_test test P says (x ∷ xs) e = let b = and_both (test x) (list_all test xs) e in (says x b.0, all_from_test test P says xs b.1)
+all_from_test test P says (x ∷ xs) e = let b = and_parts (test x) (list_all test xs) e in (says x b.0, all_from_test test P says xs b.1)
 
 pub test_from_all : {A : Type 0} (test : A → Bool) (P : A → Type 0) → ((x : A) → P x → test x ≡ true) → (xs : List A) → AllByRecursion P xs → list_all test xs ≡ true
 test_from_all test P says [] h = refl
 test_from_all test P says (x ∷ xs) h = ap (λ b. b && list_all test xs) (says x h.0) ∙ test_from_all test P says xs h.1
 
 -- an error that is passed on
-pub passed_on : {A : Type 0} (r : Result A NetFault) (x e : NetFault) (f : Option NetFault) → r ≡ Err x → x ≡ e → f ≡ Some e → Answers r f
-passed_on r x e f p q h = subst (λ r. Answers r f) (sym p) (h ∙ ap Some (sym q))
+pub passed_on : {A : Type 0} (r : Result A NetFault) (x e : NetFault) (f : Option NetFault) → r ≡ Err x → x ≡ e → f ≡ Some e → TellsFault r f
+passed_on r x e f p q h = subst (λ r. TellsFault r f) (sym p) (h ∙ ap Some (sym q))

@@ -4,6 +4,7 @@ use Rattle.std.specs.Prelude.{◌&&◌, ◌==◌, nat_le, nat_lt}
 use Rattle.std.specs.Int.Signed.{le_z, lt_z}
 use Rattle.std.specs.List.{list_all, AllByRecursion}
 use Rattle.std.proofs.lemmas.Int.{ints}
+use Rattle.std.proofs.lemmas.Bool.{and_parts}
 use Rattle.std.proofs.lemmas.Bool.Decides.{nat_tests}
 use Rattle.rx_laws.specs.Decode.{plaintexts}
 use Rattle.rx_params.specs.Derived.{noise_limit}
@@ -14,9 +15,10 @@ use Rattle.rx_net.specs.declared.fault.NetFault.{NetFault}
 use Rattle.rx_net.specs.declared.fault.NetFault.TheVariants.{Forward, Range, Noise, Table, Degree}
 use Rattle.rx_net.specs.Tags.{natural, low_of, high_of, noise_of, negative_part, positive_part}
 use Rattle.rx_net.specs.Cells.{input_cells, degrees_after, noises_after}
-use Rattle.rx_net.specs.Legal.{JobFits, IsJob, reached}
+use Rattle.rx_net.specs.Legal.{are_cells, JobFits, IsJob, reached}
 use Rattle.rx_net.specs.Faults.{first_failing, sum_fault, fit_fault, degree_fault, new_fault, job_fault}
-use Rattle.rx_net.proofs.Faults.{both_none, of_none, of_some, none_fails, passes, fails, and_both, all_from_test, test_from_all}
+use Rattle.rx_net.proofs.Faults.{both_none, of_none, of_some, none_fails, passes, fails, all_from_test, test_from_all}
+use Rattle.rx_net.proofs.Bounded.{natural_lt}
 
 pub nat_lt_yes : (a b : ℕ) → nat_lt a b ≡ true → a < b
 nat_lt_yes a b e = grind (arith, nat_tests)
@@ -48,6 +50,11 @@ lt_z_is a b h = grind (arith, ints)
 pub forward_from_test : (count : ℕ) (ts : List Term) → list_all (λ t. nat_lt t.cell count) ts ≡ true → AllByRecursion (λ t. t.cell < count) ts
 forward_from_test count ts e = all_from_test (λ (t : Term). nat_lt t.cell count) (λ t. t.cell < count) (λ t h. nat_lt_yes t.cell count h) ts e
 
+pub cells_below : (count : ℕ) (degree : ℕ → ℕ) (most : ℕ) (cells : List ℕ) → are_cells count degree most cells ≡ true → AllByRecursion (λ c. c < count) cells
+cells_below count degree most cells e =
+    all_from_test (λ c. nat_lt c count && nat_le (degree c) most) (λ c. c < count)
+    (λ c h. nat_lt_yes c count (and_parts (nat_lt c count) (nat_le (degree c) most) h).0) cells e
+
 low_part_high : (w : ℤ) (d : ℕ) → (negative_part w *ℤ pos d) ≤ℤ (positive_part w *ℤ pos d)
 low_part_high (pos n) d = omega (arith, ints)
 low_part_high (negsuc n) d = omega (arith, ints)
@@ -70,8 +77,8 @@ fits_from_none space number count degree noise ts k table e =
     ∷ ((length table == p) && list_all (λ entry. nat_lt entry p) table, Table number) ∷ []) b.1 in
     let n = none_fails (nat_le sum (noise_limit space)) (Noise number sum) (((length table == p) && list_all (λ entry. nat_lt entry p) table, Table number) ∷ []) r.1 in
     let t = none_fails ((length table == p) && list_all (λ entry. nat_lt entry p) table) (Table number) [] n.1 in
-    let r2 = and_both (le_z (pos 0) low) (lt_z high (pos p)) r.0 in
-    let t2 = and_both (length table == p) (list_all (λ entry. nat_lt entry p) table) t.0 in
+    let r2 = and_parts (le_z (pos 0) low) (lt_z high (pos p)) r.0 in
+    let t2 = and_parts (length table == p) (list_all (λ entry. nat_lt entry p) table) t.0 in
     record {
       forward = forward_from_test count ts f.0;
       low = le_z_yes (pos 0) low r2.0;
@@ -178,10 +185,6 @@ module _ (space : ℕ) (inputs : List NetInput) (before : List Job) (j : Job) (t
   pub job_differs : new_fault space inputs before ts k table ≡ None → (r : ℕ) → r ≡ reached (λ c. get_or (degrees_after space inputs before) c 0) ts k table
       → (j.degree ≡ r → ⊥) → job_fault space inputs before j ≡ Some (Degree (length before) j.degree r)
   job_differs h r d q = on h r d ∙ fails (j.degree == r) (Degree (length before) j.degree r) [] (grind (arith, nat_tests))
-
-natural_lt : (a : ℤ) (n : ℕ) → pos 0 ≤ℤ a → a <ℤ pos n → natural a < n
-natural_lt (pos a) n h k = omega (arith, ints)
-natural_lt (negsuc a) n h k = absurd (omega (arith, ints))
 
 pub high_within : (space count : ℕ) (degree noise : ℕ → ℕ) (ts : List Term) (k : ℤ) (table : List ℕ) → JobFits space count degree noise ts k table
     → natural (high_of degree k ts) < length table

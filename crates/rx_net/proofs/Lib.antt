@@ -1,3 +1,4 @@
+pub mod Each
 pub mod Laid
 pub mod Inputs
 pub mod Sums

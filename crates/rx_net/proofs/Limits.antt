@@ -1,7 +1,7 @@
 -- Nets within their limits.
 use Rattle.std.proofs.Common.{◌≡◌, ℕ, ◌+◌, ◌*◌, ◌/◌, ◌%◌, ◌≤◌, ◌⊎◌, inl, inr, List, [], ◌∷◌, ◌++◌, length, get_or, true, sym, ◌∙◌, ap, arith, subst}
 use Rattle.std.specs.Prelude.{◌&&◌, ◌==◌, not, nat_le, IsTrue}
-use Rattle.std.proofs.lemmas.Bool.Decides.{nat_tests}
+use Rattle.std.proofs.lemmas.Bool.{and_parts}
 use Rattle.rx_params.specs.declared.kind.Kind.{Kind}
 use Rattle.rx_params.specs.declared.kind.Kind.TheVariants.{Int, Bit}
 use Rattle.rx_params.specs.Kinds.{block_count, is_form}
@@ -10,15 +10,12 @@ use Rattle.rx_net.specs.declared.net.NetInput.{NetInput}
 use Rattle.rx_net.specs.declared.net.Net.{Net}
 use Rattle.rx_net.specs.Cells.{input_cells, cell_count, degree, degrees_after}
 use Rattle.rx_net.specs.Legal.{InTurn, WithinLimits, has_input_tags, names_input, is_input}
-use Rattle.rx_net.proofs.Faults.{and_both}
-
-nat_le_yes : (a b : ℕ) → nat_le a b ≡ true → a ≤ b
-nat_le_yes a b e = grind (arith, nat_tests)
+use Rattle.rx_net.proofs.Fits.{nat_le_yes}
 
 few_blocks : (space : ℕ) (kind : Kind) (bits : ℕ) → (space ≡ 2) ⊎ (space ≡ 3) → is_form space kind bits ≡ true → block_count kind space bits ≤ 32
 few_blocks space Int bits s h =
-    let a = and_both (nat_le space bits) (nat_le bits 64 && (bits % space == 0)) h in
-    let b = and_both (nat_le bits 64) (bits % space == 0) a.1 in
+    let a = and_parts (nat_le space bits) (nat_le bits 64 && (bits % space == 0)) h in
+    let b = and_parts (nat_le bits 64) (bits % space == 0) a.1 in
     let l : bits ≤ 64 = nat_le_yes bits 64 b.0 in
     elim s [
       | inl e ↦ subst (λ (s : ℕ). bits / s ≤ 32) (sym e) (omega arith)
@@ -31,7 +28,7 @@ few_by_input : (space : ℕ) → (space ≡ 2) ⊎ (space ≡ 3) → (before is 
 unfolding input_cells
 few_by_input space s before [] h = omega arith
 few_by_input space s before (i ∷ is) h =
-    let a = and_both (is_form space i.kind i.bits) (has_input_tags space i && not (names_input i.name before)) h.0 in
+    let a = and_parts (is_form space i.kind i.bits) (has_input_tags space i && not (names_input i.name before)) h.0 in
     omega (arith, few_blocks space i.kind i.bits s a.0, few_by_input space s (before ++ i ∷ []) is h.1)
 
 pub few_input_cells : (net : Net) → WithinLimits net → input_cells net.space net.inputs ≤ 2048

@@ -1,7 +1,6 @@
 -- Names of a net that grows.
-use Rattle.std.proofs.Common.{◌≡◌, ℕ, ℤ, List, [], ◌∷◌, ◌++◌, sym, subst}
+use Rattle.std.proofs.Common.{◌≡◌, ℕ, ℤ, List, [], ◌∷◌, sym, subst}
 use Rattle.std.specs.Prelude.{IsTrue}
-use Rattle.std.specs.List.{AllByRecursion}
 use Rattle.rx_text.specs.Names.{is_name}
 use Rattle.rx_net.specs.declared.term.Term.{Term}
 use Rattle.rx_net.specs.declared.net.NetInput.{NetInput}
@@ -10,15 +9,12 @@ use Rattle.rx_net.specs.declared.net.Net.{Net}
 use Rattle.rx_net.specs.Legal.{Legal}
 use Rattle.rx_net.specs.Named.{IsNet}
 use Rattle.rx_net.specs.Pen.{with_input, with_job, with_output}
-
-all_more : {A : Type 0} (P : A → Type 0) (xs : List A) (x : A) → AllByRecursion P xs → P x → AllByRecursion P (xs ++ x ∷ [])
-all_more P [] x h p = (p, tt)
-all_more P (y ∷ ys) x h p = (h.0, all_more P ys x h.1 p)
+use Rattle.rx_net.proofs.Each.{all_append}
 
 pub input_named : (net : Net) (i : NetInput) → IsNet net → IsTrue (is_name i.name) → Legal (with_input net i) → IsNet (with_input net i)
 input_named net i h name legal = record {
   legal = legal;
-  input_names = all_more (λ (i : NetInput). IsTrue (is_name i.name)) net.inputs i h.input_names name;
+  input_names = all_append (λ (i : NetInput). IsTrue (is_name i.name)) net.inputs (i ∷ []) h.input_names (name, tt);
   output_names = h.output_names;
 }
 
@@ -34,5 +30,5 @@ pub output_named : (net : Net) (o : NetOutput) → IsNet net → IsTrue (is_name
 output_named net o h name legal = record {
   legal = legal;
   input_names = h.input_names;
-  output_names = all_more (λ (o : NetOutput). IsTrue (is_name o.name)) net.outputs o h.output_names name;
+  output_names = all_append (λ (o : NetOutput). IsTrue (is_name o.name)) net.outputs (o ∷ []) h.output_names (name, tt);
 }

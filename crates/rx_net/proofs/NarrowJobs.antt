@@ -1,10 +1,10 @@
 -- The numbers of a legal net's jobs fit the types that hold them.
-use Rattle.std.proofs.Common.{◌≡◌, ℕ, ℤ, pos, negsuc, zero, suc, ◌+◌, ◌-◌, ◌*◌, ◌<◌, ◌≤◌, ◌^◌, ◌⊎◌, inl, inr, ◌≤ℤ◌, ◌<ℤ◌, ◌*ℤ◌, List, [], ◌∷◌, ◌++◌, length, get_or, take, drop, replicate, sym, ◌∙◌, arith, subst, length-append}
-use Rattle.std.specs.Prelude.{◌&&◌, not, nat_le, IsTrue, slice_range}
+use Rattle.std.proofs.Common.{◌≡◌, ℕ, ℤ, pos, negsuc, zero, suc, ◌+◌, ◌-◌, ◌*◌, ◌<◌, ◌≤◌, ◌^◌, ◌⊎◌, inl, inr, ◌≤ℤ◌, ◌<ℤ◌, ◌*ℤ◌, List, [], ◌∷◌, ◌++◌, length, get_or, replicate, sym, ◌∙◌, arith, subst, length-append}
+use Rattle.std.specs.Prelude.{◌&&◌, not, nat_le, IsTrue}
 use Rattle.std.specs.List.{AllByRecursion}
 use Rattle.std.specs.Int.{w8, w16}
 use Rattle.std.specs.Int.RustNames.{FitsSigned, unsigned_abs}
-use Rattle.std.proofs.lemmas.Bool.{cases_lt}
+use Rattle.std.proofs.lemmas.Bool.{cases_lt, and_parts}
 use Rattle.std.proofs.lemmas.Int.{ints, fits_signed_from_abs}
 use Rattle.std.proofs.lemmas.List.{get_or_append_left, get_or-append_right, length-replicate, get_or-replicate}
 use Rattle.rx_laws.specs.Decode.{plaintexts}
@@ -14,11 +14,12 @@ use Rattle.rx_net.specs.declared.term.Term.{Term}
 use Rattle.rx_net.specs.declared.net.Job.{Job}
 use Rattle.rx_net.specs.declared.net.NetInput.{NetInput}
 use Rattle.rx_net.specs.declared.net.Net.{Net}
-use Rattle.rx_net.specs.Tags.{negative_part, positive_part, low_of, high_of, noise_of, greatest_of, greatest_between}
+use Rattle.rx_net.specs.Tags.{negative_part, positive_part, low_of, high_of, noise_of}
 use Rattle.rx_net.specs.Cells.{input_cells, given, degrees_after, noises_after}
 use Rattle.rx_net.specs.Legal.{InTurn, has_input_tags, names_input, is_input, IsJob, Legal}
 use Rattle.rx_net.specs.Narrow.{IsNarrow}
-use Rattle.rx_net.proofs.Faults.{and_both}
+use Rattle.rx_net.proofs.Each.{all_map}
+use Rattle.rx_net.proofs.Bounded.{between_below}
 use Rattle.rx_net.proofs.Fits.{nat_le_yes}
 use Rattle.rx_net.proofs.Inputs.{given_noise, job_noise_at}
 use Rattle.rx_net.proofs.Limits.{few_input_cells}
@@ -32,10 +33,10 @@ given_low space before [] h c p = absurd (omega (arith, p))
 given_low space before (i ∷ is) h c p =
     let n : ℕ = block_count i.kind space i.bits in
     let rest = given space (λ (i : NetInput). i.noise) is in
-    let a = and_both (is_form space i.kind i.bits) (has_input_tags space i && not (names_input i.name before)) h.0 in
-    let b = and_both (has_input_tags space i) (not (names_input i.name before)) a.1 in
-    let d = and_both (nat_le i.degree (greatest i.kind space)) (nat_le 1 i.noise && nat_le i.noise (noise_limit space)) b.0 in
-    let low : 1 ≤ i.noise = nat_le_yes _ _ (and_both (nat_le 1 i.noise) (nat_le i.noise (noise_limit space)) d.1).0 in
+    let a = and_parts (is_form space i.kind i.bits) (has_input_tags space i && not (names_input i.name before)) h.0 in
+    let b = and_parts (has_input_tags space i) (not (names_input i.name before)) a.1 in
+    let d = and_parts (nat_le i.degree (greatest i.kind space)) (nat_le 1 i.noise && nat_le i.noise (noise_limit space)) b.0 in
+    let low : 1 ≤ i.noise = nat_le_yes _ _ (and_parts (nat_le 1 i.noise) (nat_le i.noise (noise_limit space)) d.1).0 in
     elim (cases_lt c n) [
       | inl lt ↦ subst (λ (x : ℕ). 1 ≤ x) (sym (get_or_append_left (replicate n i.noise) rest 0 c (omega (arith, lt, length-replicate n i.noise)) ∙ get_or-replicate n c i.noise 0 lt)) low
       | inr le ↦ subst (λ (x : ℕ). 1 ≤ x) (sym (get_or-append_right (replicate n i.noise) rest n c 0 (length-replicate n i.noise) le)) (given_low space (before ++ i ∷ []) is h.1 (c - n) (omega (arith, p, le)))
@@ -63,10 +64,6 @@ weights_low count most noise low small (t ∷ ts) forward sum = (
   weights_low count most noise low small ts forward.1 (omega (arith, sum)),
 )
 
-cells_low : (count : ℕ) → count < 2 ^ 32 → (ts : List Term) → AllByRecursion (λ (t : Term). t.cell < count) ts → AllByRecursion (λ (t : Term). t.cell < 2 ^ 32) ts
-cells_low count few [] forward = tt
-cells_low count few (t ∷ ts) forward = (omega (arith, forward.0, few), cells_low count few ts forward.1)
-
 -- ---- the constant
 
 negative_low : (w : ℤ) (d : ℕ) → (negative_part w *ℤ pos d) ≤ℤ pos 0
@@ -89,31 +86,6 @@ constant_low : (k : ℤ) (most : ℕ) → pos 0 ≤ℤ k → k <ℤ pos most →
 constant_low (pos n) most low high small = fits_signed_from_abs w16 (pos n) (omega (arith, ints, high, small))
 constant_low (negsuc n) most low high small = absurd (omega (arith, ints, low))
 
--- ---- the table and the degree
-
-entries_low : (most : ℕ) → most ≤ 64 → (table : List ℕ) → AllByRecursion (λ entry. entry < most) table → AllByRecursion (λ entry. entry < 2 ^ 8) table
-entries_low most small [] h = tt
-entries_low most small (e ∷ es) h = (omega (arith, h.0, small), entries_low most small es h.1)
-
-greatest_low : (table : List ℕ) → AllByRecursion (λ entry. entry < 2 ^ 8) table → greatest_of table < 2 ^ 8
-unfolding greatest_of
-greatest_low [] h = omega arith
-greatest_low (e ∷ es) h = omega (arith, h.0, greatest_low es h.1)
-
-take_all_low : (n : ℕ) (table : List ℕ) → AllByRecursion (λ entry. entry < 2 ^ 8) table → AllByRecursion (λ entry. entry < 2 ^ 8) (take n table)
-take_all_low zero table h = tt
-take_all_low (suc n) [] h = tt
-take_all_low (suc n) (e ∷ es) h = (h.0, take_all_low n es h.1)
-
-drop_all_low : (n : ℕ) (table : List ℕ) → AllByRecursion (λ entry. entry < 2 ^ 8) table → AllByRecursion (λ entry. entry < 2 ^ 8) (drop n table)
-drop_all_low zero table h = h
-drop_all_low (suc n) [] h = tt
-drop_all_low (suc n) (e ∷ es) h = drop_all_low n es h.1
-
-between_low : (table : List ℕ) (low high : ℕ) → AllByRecursion (λ entry. entry < 2 ^ 8) table → greatest_between table low high < 2 ^ 8
-unfolding greatest_between
-between_low table low high h = greatest_low (slice_range table low (suc high)) (take_all_low (suc high - low) (drop low table) (drop_all_low low table h))
-
 -- ---- jobs
 
 space_small : (space : ℕ) → (space ≡ 2) ⊎ (space ≡ 3) → (plaintexts space ≤ 64) × (noise_limit space < 128)
@@ -128,13 +100,13 @@ job_narrow space is before j s inputs few h =
     let noise = λ (c : ℕ). get_or (noises_after space is before) c 0 in
     let low = low_under degree j.constant j.terms in
     let high = high_over degree j.constant j.terms in
-    let table = entries_low (plaintexts space) small.0 j.table h.fits.table_entries in
+    let table : AllByRecursion (λ entry. entry < 2 ^ 8) j.table = all_map (λ entry. entry < plaintexts space) (λ entry. entry < 2 ^ 8) j.table (λ entry low. omega (arith, low, small.0)) h.fits.table_entries in
     record {
-      cells = cells_low (input_cells space is + length before) few j.terms h.fits.forward;
+      cells = all_map (λ (t : Term). t.cell < input_cells space is + length before) (λ (t : Term). t.cell < 2 ^ 32) j.terms (λ t low. omega (arith, low, few)) h.fits.forward;
       weights = weights_low (input_cells space is + length before) (noise_limit space) noise (noise_low space is before inputs j) small.1 j.terms h.fits.forward h.fits.noise_in;
       constant = constant_low j.constant (plaintexts space) (omega (arith, ints, low, h.fits.low)) (omega (arith, ints, high, h.fits.high)) small.0;
       table = table;
-      degree = subst (λ (d : ℕ). d < 2 ^ 8) (sym h.declared) (between_low j.table _ _ table);
+      degree = subst (λ (d : ℕ). d < 2 ^ 8) (sym h.declared) (between_below (2 ^ 8) j.table _ _ (omega arith) table);
     }
 
 jobs_narrow : (space : ℕ) (is : List NetInput) → (space ≡ 2) ⊎ (space ≡ 3) → InTurn (λ before i. IsTrue (is_input space before i)) [] is → (before js : List Job)

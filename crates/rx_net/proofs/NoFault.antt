@@ -1,7 +1,10 @@
 -- A net is legal exactly where it has no first fault.
-use Rattle.std.proofs.Common.{◌≡◌, ℕ, ◌≤◌, ◌⊎◌, inl, inr, List, [], length, Bool, true, false, refl, sym, ◌∙◌, ap, Option, Some, None, Result, Ok, Err}
+use Rattle.std.proofs.Common.{◌≡◌, ℕ, ◌≤◌, ◌⊎◌, List, [], length, Bool, true, refl, sym, ◌∙◌, ap, Option, Some, None, Result, Ok, Err}
 use Rattle.std.specs.Prelude.{◌||◌, ◌==◌, nat_le, IsTrue}
 use Rattle.std.specs.Result.{IsOk}
+use Rattle.std.specs.Option.{option_or}
+use Rattle.rx_params.specs.Acceptance.{answered}
+use Rattle.rx_params.proofs.Refusals.{two_or_three, two_or_three-is}
 use Rattle.rx_net.specs.declared.net.Job.{Job}
 use Rattle.rx_net.specs.declared.net.NetInput.{NetInput}
 use Rattle.rx_net.specs.declared.net.NetOutput.{NetOutput}
@@ -10,19 +13,9 @@ use Rattle.rx_net.specs.declared.fault.NetFault.{NetFault}
 use Rattle.rx_net.specs.declared.fault.NetFault.TheVariants.{Limit, Output}
 use Rattle.rx_net.specs.Cells.{cell_count, degree}
 use Rattle.rx_net.specs.Legal.{IsJob, is_input, is_output, WithinLimits, Legal}
-use Rattle.rx_net.specs.Faults.{first_of, first_in_turn, input_fault, terms_fault, job_fault, output_fault, limit, limit_fault, fault_of, answered, Answers}
+use Rattle.rx_net.specs.Faults.{first_in_turn, input_fault, terms_fault, job_fault, output_fault, limit, limit_fault, fault_of, TellsFault}
 use Rattle.rx_net.proofs.Faults.{both_none, of_none, of_some, none_fails, passes, turn_from_none, none_from_turn}
-use Rattle.rx_net.proofs.Fits.{job_from_none, none_from_job, nat_le_yes, nat_le_is, same_yes}
-
-or_yes : (a b : Bool) → (a || b) ≡ true → (a ≡ true) ⊎ (b ≡ true)
-or_yes true b e = inl refl
-or_yes false b e = inr e
-
-space_yes : (s : ℕ) → ((s == 2) || (s == 3)) ≡ true → (s ≡ 2) ⊎ (s ≡ 3)
-space_yes s e = elim (or_yes (s == 2) (s == 3) e) [
-  | inl h ↦ inl (same_yes s 2 h)
-  | inr h ↦ inr (same_yes s 3 h)
-]
+use Rattle.rx_net.proofs.Fits.{job_from_none, none_from_job, nat_le_yes, nat_le_is}
 
 input_from_none : (space : ℕ) (before : List NetInput) (i : NetInput) → input_fault space before i ≡ None → IsTrue (is_input space before i)
 input_from_none space before i e = (none_fails (is_input space before i) (Limit 3 (length before)) [] e).0
@@ -46,22 +39,22 @@ limit_yes : (holds : Bool) (field value : ℕ) → limit holds field value ≡ N
 limit_yes holds field value e = (none_fails holds (Limit field value) [] e).0
 
 pub space_from_none : (space : ℕ) → limit ((space == 2) || (space == 3)) 1 space ≡ None → (space ≡ 2) ⊎ (space ≡ 3)
-space_from_none space e = space_yes space (limit_yes ((space == 2) || (space == 3)) 1 space e)
+space_from_none space e = two_or_three-is space (limit_yes ((space == 2) || (space == 3)) 1 space e)
 
 -- the parts of the limits
 abbrev jobs_on : List Job → List NetOutput → Option NetFault
-jobs_on jobs outputs = first_of (limit (nat_le (length jobs) 65536) 4 (length jobs)) (first_of (first_in_turn terms_fault [] jobs) (limit (nat_le (length outputs) 64) 6 (length outputs)))
+jobs_on jobs outputs = option_or (limit (nat_le (length jobs) 65536) 4 (length jobs)) (option_or (first_in_turn terms_fault [] jobs) (limit (nat_le (length outputs) 64) 6 (length outputs)))
 
 abbrev inputs_on : ℕ → List NetInput → List Job → List NetOutput → Option NetFault
-inputs_on space inputs jobs outputs = first_of (first_in_turn (input_fault space) [] inputs) (jobs_on jobs outputs)
+inputs_on space inputs jobs outputs = option_or (first_in_turn (input_fault space) [] inputs) (jobs_on jobs outputs)
 
 pub limits_from_none : (net : Net) → limit_fault net.space net.inputs net.jobs net.outputs ≡ None → WithinLimits net
 unfolding limit_fault
 limits_from_none net e =
-    let a = both_none (limit ((net.space == 2) || (net.space == 3)) 1 net.space) (first_of (limit (nat_le (length net.inputs) 64) 2 (length net.inputs)) (inputs_on net.space net.inputs net.jobs net.outputs)) e in
+    let a = both_none (limit ((net.space == 2) || (net.space == 3)) 1 net.space) (option_or (limit (nat_le (length net.inputs) 64) 2 (length net.inputs)) (inputs_on net.space net.inputs net.jobs net.outputs)) e in
     let b = both_none (limit (nat_le (length net.inputs) 64) 2 (length net.inputs)) (inputs_on net.space net.inputs net.jobs net.outputs) a.1 in
     let d = both_none (first_in_turn (input_fault net.space) [] net.inputs) (jobs_on net.jobs net.outputs) b.1 in
-    let g = both_none (limit (nat_le (length net.jobs) 65536) 4 (length net.jobs)) (first_of (first_in_turn terms_fault [] net.jobs) (limit (nat_le (length net.outputs) 64) 6 (length net.outputs))) d.1 in
+    let g = both_none (limit (nat_le (length net.jobs) 65536) 4 (length net.jobs)) (option_or (first_in_turn terms_fault [] net.jobs) (limit (nat_le (length net.outputs) 64) 6 (length net.outputs))) d.1 in
     let h = both_none (first_in_turn terms_fault [] net.jobs) (limit (nat_le (length net.outputs) 64) 6 (length net.outputs)) g.1 in
     record {
       space = space_from_none net.space a.0;
@@ -71,12 +64,6 @@ limits_from_none net e =
       few_terms = turn_from_none terms_fault (λ before (j : Job). length j.terms ≤ 16) terms_from_none [] net.jobs h.0;
       few_outputs = nat_le_yes (length net.outputs) 64 (limit_yes (nat_le (length net.outputs) 64) 6 (length net.outputs) h.1);
     }
-
-pub space_is : (s : ℕ) → (s ≡ 2) ⊎ (s ≡ 3) → ((s == 2) || (s == 3)) ≡ true
-space_is s h = elim h [
-  | inl e ↦ ap (λ (s : ℕ). (s == 2) || (s == 3)) e
-  | inr e ↦ ap (λ (s : ℕ). (s == 2) || (s == 3)) e
-]
 
 pub limit_is : (holds : Bool) (field value : ℕ) → holds ≡ true → limit holds field value ≡ None
 limit_is holds field value e = passes holds (Limit field value) [] e
@@ -90,7 +77,7 @@ terms_none net w = none_from_turn terms_fault (λ before (j : Job). length j.ter
 pub none_from_limits : (net : Net) → WithinLimits net → limit_fault net.space net.inputs net.jobs net.outputs ≡ None
 unfolding limit_fault
 none_from_limits net w = rw (
-  limit_is ((net.space == 2) || (net.space == 3)) 1 net.space (space_is net.space w.space),
+  limit_is ((net.space == 2) || (net.space == 3)) 1 net.space (two_or_three net.space w.space),
   limit_is (nat_le (length net.inputs) 64) 2 (length net.inputs) (nat_le_is (length net.inputs) 64 w.few_inputs),
   inputs_none net w,
   limit_is (nat_le (length net.jobs) 65536) 4 (length net.jobs) (nat_le_is (length net.jobs) 65536 w.few_jobs),
@@ -103,7 +90,7 @@ unfolding fault_of
 legal_from_none net e =
     let jobs = first_in_turn (job_fault net.space net.inputs) [] net.jobs in
     let outputs = first_in_turn (output_fault net.space (cell_count net) (degree net)) [] net.outputs in
-    let a = both_none (limit_fault net.space net.inputs net.jobs net.outputs) (first_of jobs outputs) e in
+    let a = both_none (limit_fault net.space net.inputs net.jobs net.outputs) (option_or jobs outputs) e in
     let b = both_none jobs outputs a.1 in
     record {
       limits = limits_from_none net a.0;
@@ -124,17 +111,17 @@ unfolding fault_of
 none_from_legal net l =
     let jobs = first_in_turn (job_fault net.space net.inputs) [] net.jobs in
     let outputs = first_in_turn (output_fault net.space (cell_count net) (degree net)) [] net.outputs in
-    of_none (limit_fault net.space net.inputs net.jobs net.outputs) (first_of jobs outputs) (none_from_limits net l.limits) ∙ of_none jobs outputs (jobs_none net l) ∙ outputs_none net l
+    of_none (limit_fault net.space net.inputs net.jobs net.outputs) (option_or jobs outputs) (none_from_limits net l.limits) ∙ of_none jobs outputs (jobs_none net l) ∙ outputs_none net l
 
 -- ---- what the check answers
-pub answer_ok : (r : Result (Unit {0}) NetFault) (f : Option NetFault) → Answers r f → r ≡ answered f
-answer_ok (Ok tt) f e = ap answered (sym e)
-answer_ok (Err x) f e = ap answered (sym e)
+pub answer_ok : (r : Result (Unit {0}) NetFault) (f : Option NetFault) → TellsFault r f → r ≡ answered f tt
+answer_ok (Ok tt) f e = ap (λ fault. answered fault tt) (sym e)
+answer_ok (Err x) f e = ap (λ fault. answered fault tt) (sym e)
 
 some_none : (x : NetFault) → Some x ≡ None → ⊥
 some_none x e = cc
 
-pub ok_exactly : (net : Net) (r : Result (Unit {0}) NetFault) → Answers r (fault_of net) → (IsOk r → Legal net) × (Legal net → IsOk r)
+pub ok_exactly : (net : Net) (r : Result (Unit {0}) NetFault) → TellsFault r (fault_of net) → (IsOk r → Legal net) × (Legal net → IsOk r)
 ok_exactly net (Ok x) e = (λ _. legal_from_none net e, λ _. refl)
 ok_exactly net (Err x) e = (λ h. let z : ⊥ = cc in absurd z, λ l. let n = none_from_legal net l in absurd (some_none x (sym e ∙ n)))
 
@@ -157,15 +144,15 @@ module _ (net : Net) (is : List NetInput) (js : List Job) (os : List NetOutput) 
 
   pub limit_stops : (x : NetFault) → limit_fault net.space is js os ≡ Some x → fault_of net ≡ Some x
   unfolding fault_of jobs_part outputs_part
-  limit_stops x h = of_some (limit_fault net.space net.inputs net.jobs net.outputs) (first_of jobs_part outputs_part) x (sym same_limits ∙ h)
+  limit_stops x h = of_some (limit_fault net.space net.inputs net.jobs net.outputs) (option_or jobs_part outputs_part) x (sym same_limits ∙ h)
 
   pub jobs_stop : (x : NetFault) → limit_fault net.space is js os ≡ None → first_in_turn (job_fault net.space is) [] js ≡ Some x → fault_of net ≡ Some x
   unfolding fault_of jobs_part outputs_part
-  jobs_stop x h k = of_none (limit_fault net.space net.inputs net.jobs net.outputs) (first_of jobs_part outputs_part) (sym same_limits ∙ h)
+  jobs_stop x h k = of_none (limit_fault net.space net.inputs net.jobs net.outputs) (option_or jobs_part outputs_part) (sym same_limits ∙ h)
       ∙ of_some jobs_part outputs_part x (sym same_jobs ∙ k)
 
   pub outputs_left : limit_fault net.space is js os ≡ None → first_in_turn (job_fault net.space is) [] js ≡ None
       → first_in_turn (output_fault net.space (cell_count net) (degree net)) [] net.outputs ≡ fault_of net
   unfolding fault_of jobs_part outputs_part
-  outputs_left h k = sym (of_none (limit_fault net.space net.inputs net.jobs net.outputs) (first_of jobs_part outputs_part) (sym same_limits ∙ h)
+  outputs_left h k = sym (of_none (limit_fault net.space net.inputs net.jobs net.outputs) (option_or jobs_part outputs_part) (sym same_limits ∙ h)
       ∙ of_none jobs_part outputs_part (sym same_jobs ∙ k))

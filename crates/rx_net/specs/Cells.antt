@@ -28,8 +28,8 @@ laid step cells (j ∷ js) = laid step (cells ++ step j cells ∷ []) js
 -- ---- values, degrees, noises and depths, for jobs that follow inputs
 
 -- the table's entry at the weighted sum of the values of cells
-unfoldable pub looked_up : Job → List ℕ → ℕ
-looked_up job values = get_or job.table (natural (value_of (λ c. get_or values c 0) job.constant job.terms)) 0
+unfoldable pub job_value : Job → List ℕ → ℕ
+job_value job values = get_or job.table (natural (value_of (λ c. get_or values c 0) job.constant job.terms)) 0
 
 abbrev pub declared_degree : Job → List ℕ → ℕ
 declared_degree job degrees = job.degree
@@ -42,7 +42,7 @@ unfoldable pub one_deeper : Job → List ℕ → ℕ
 one_deeper job depths = suc (greatest_of (map (λ t. get_or depths t.cell 0) job.terms))
 
 unfoldable pub values_after : List ℕ → List Job → List ℕ
-values_after values jobs = laid looked_up values jobs
+values_after values jobs = laid job_value values jobs
 
 unfoldable pub degrees_after : ℕ → List NetInput → List Job → List ℕ
 degrees_after space inputs jobs = laid declared_degree (given space (λ i. i.degree) inputs) jobs

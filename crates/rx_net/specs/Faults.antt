@@ -2,6 +2,7 @@
 use Rattle.std.specs.Prelude.{ℕ, ℤ, pos, ◌≡◌, ◌+◌, ◌==◌, nat_le, nat_lt, ◌&&◌, ◌||◌, Bool, List, [], ◌∷◌, ◌++◌, length, get_or, Option, Some, None, if◌then◌else◌, Result, Ok, Err}
 use Rattle.std.specs.List.{list_all}
 use Rattle.std.specs.Int.Signed.{le_z, lt_z}
+use Rattle.std.specs.Option.{option_or}
 use Rattle.rx_laws.specs.Decode.{plaintexts}
 use Rattle.rx_params.specs.Derived.{noise_limit}
 use Rattle.rx_net.specs.declared.term.Term.{Term}
@@ -15,10 +16,6 @@ use Rattle.rx_net.specs.Tags.{low_of, high_of, noise_of}
 use Rattle.rx_net.specs.Cells.{input_cells, cell_count, degrees_after, noises_after, degree}
 use Rattle.rx_net.specs.Legal.{is_input, is_output, reached}
 
-abbrev pub first_of : Option NetFault → Option NetFault → Option NetFault
-first_of None second = second
-first_of (Some fault) second = Some fault
-
 -- the fault of the first test that fails
 abbrev pub first_failing : List (Bool × NetFault) → Option NetFault
 first_failing [] = None
@@ -27,7 +24,7 @@ first_failing (test ∷ tests) = if test.0 then first_failing tests else Some te
 -- the first fault of the elements in their order, each told by the elements before it
 abbrev pub first_in_turn : {A : Type 0} → (List A → A → Option NetFault) → List A → List A → Option NetFault
 first_in_turn fault before [] = None
-first_in_turn fault before (x ∷ xs) = first_of (fault before x) (first_in_turn fault (before ++ x ∷ []) xs)
+first_in_turn fault before (x ∷ xs) = option_or (fault before x) (first_in_turn fault (before ++ x ∷ []) xs)
 
 -- ---- the limits, by the number of a field
 abbrev pub input_fault : ℕ → List NetInput → NetInput → Option NetFault
@@ -41,11 +38,11 @@ limit holds field value = first_failing ((holds, Limit field value) ∷ [])
 
 unfoldable pub limit_fault : ℕ → List NetInput → List Job → List NetOutput → Option NetFault
 limit_fault space inputs jobs outputs =
-    first_of (limit ((space == 2) || (space == 3)) 1 space)
-    (first_of (limit (nat_le (length inputs) 64) 2 (length inputs))
-    (first_of (first_in_turn (input_fault space) [] inputs)
-    (first_of (limit (nat_le (length jobs) 65536) 4 (length jobs))
-    (first_of (first_in_turn terms_fault [] jobs)
+    option_or (limit ((space == 2) || (space == 3)) 1 space)
+    (option_or (limit (nat_le (length inputs) 64) 2 (length inputs))
+    (option_or (first_in_turn (input_fault space) [] inputs)
+    (option_or (limit (nat_le (length jobs) 65536) 4 (length jobs))
+    (option_or (first_in_turn terms_fault [] jobs)
     (limit (nat_le (length outputs) 64) 6 (length outputs))))))
 
 -- ---- the jobs
@@ -61,7 +58,7 @@ sum_fault space number low high noise table =
 -- a job of this number, but for the degree that it declares
 abbrev pub fit_fault : ℕ → ℕ → ℕ → (ℕ → ℕ) → (ℕ → ℕ) → List Term → ℤ → List ℕ → Option NetFault
 fit_fault space number count degree noise terms constant table =
-    first_of (first_failing ((list_all (λ t. nat_lt t.cell count) terms, Forward number) ∷ []))
+    option_or (first_failing ((list_all (λ t. nat_lt t.cell count) terms, Forward number) ∷ []))
     (sum_fault space number (low_of degree constant terms) (high_of degree constant terms) (noise_of noise terms) table)
 
 abbrev pub degree_fault : ℕ → ℕ → ℕ → Option NetFault
@@ -76,7 +73,7 @@ new_fault space inputs before terms constant table =
 
 unfoldable pub job_fault : ℕ → List NetInput → List Job → Job → Option NetFault
 job_fault space inputs before j =
-    first_of (new_fault space inputs before j.terms j.constant j.table)
+    option_or (new_fault space inputs before j.terms j.constant j.table)
     (degree_fault (length before) j.degree (reached (λ c. get_or (degrees_after space inputs before) c 0) j.terms j.constant j.table))
 
 -- ---- the outputs
@@ -86,15 +83,11 @@ output_fault space count degree before o = first_failing ((is_output space count
 -- the first fault of a net: a limit, then a fault of a job, job after job, then one of an output; none where it is legal
 unfoldable pub fault_of : Net → Option NetFault
 fault_of net =
-    first_of (limit_fault net.space net.inputs net.jobs net.outputs)
-    (first_of (first_in_turn (job_fault net.space net.inputs) [] net.jobs)
+    option_or (limit_fault net.space net.inputs net.jobs net.outputs)
+    (option_or (first_in_turn (job_fault net.space net.inputs) [] net.jobs)
     (first_in_turn (output_fault net.space (cell_count net) (degree net)) [] net.outputs))
 
-abbrev pub answered : Option NetFault → Result (Unit {0}) NetFault
-answered None = Ok tt
-answered (Some fault) = Err fault
-
 -- what a function answers that tells a fault
-abbrev pub Answers : {A : Type 0} → Result A NetFault → Option NetFault → Type 0
-Answers (Ok x) fault = fault ≡ None
-Answers (Err told) fault = fault ≡ Some told
+abbrev pub TellsFault : {A : Type 0} → Result A NetFault → Option NetFault → Type 0
+TellsFault (Ok x) fault = fault ≡ None
+TellsFault (Err told) fault = fault ≡ Some told

@@ -1,20 +1,20 @@
-// The check that a net is legal.
+//! The check that a net is legal.
 ghost use Rattle.std.specs.Prelude.{◌≡◌, ◌⊎◌, ◌↔◌, ℕ, ℤ, pos, ◌≤ℤ◌, ◌+◌, ◌*◌, ◌^◌, ◌<◌, ◌≤◌, ◌==◌, ◌&&◌, ◌||◌, nat_lt, nat_le, not, [], length, get_or, IsOk, IfOk};
 ghost use Rattle.std.specs.List.{list_all};
 ghost use Rattle.rx_laws.specs.Decode.{plaintexts};
-ghost use Rattle.rx_params.specs.Derived.{noise_limit};
+ghost use Rattle.rx_params.specs.Acceptance.{answered};
 ghost use Rattle.rx_net.specs.declared.net.Job.{Job};
 ghost use Rattle.rx_net.specs.Tags.{natural, greatest_between};
 ghost use Rattle.rx_net.specs.Cells.{input_cells, cell_count, degree, degrees_after};
 ghost use Rattle.rx_net.specs.Legal.{Legal, InTurn, WithinLimits, is_input, is_output, has_input_tags, names_input, names_output, are_cells, reached as reached_of};
-ghost use Rattle.rx_net.specs.Faults.{Answers, answered, first_failing, first_in_turn, fault_of, limit, limit_fault, input_fault, terms_fault, new_fault, sum_fault, job_fault, output_fault};
+ghost use Rattle.rx_net.specs.Faults.{TellsFault, first_failing, first_in_turn, fault_of, limit, limit_fault, input_fault, terms_fault, new_fault, sum_fault, job_fault, output_fault};
 
 use crate::fault::NetFault;
 use crate::net::{Job, Net, NetInput, NetOutput};
 use crate::tag_sums::TagSums;
 use crate::tags::{greatest_between, input_cells, sum_tags, tags_at};
 use crate::term::Term;
-use rx_params::Name;
+use rx_params::{Name, noise_limit, plaintexts};
 
 pub(crate) const MOST_INPUTS: usize = 64;
 
@@ -27,7 +27,7 @@ pub(crate) const MOST_OUTPUTS: usize = 64;
 /// Ok exactly where the net is legal, else its first fault: a limit, the fields in their order; then a fault of a
 /// job, job after job; then one of an output.
 pub fn legal(net: &Net) -> Result<(), NetFault>
-    ensures exact { result ≡ answered (fault_of net.now) }
+    ensures exact { result ≡ answered (fault_of net.now) tt }
     ensures legal { IsOk result ↔ Legal net.now }
 {
     let inputs = net.inputs.as_slice();
@@ -43,7 +43,7 @@ fn check_limits(
     jobs: &[Job],
     outputs: &[NetOutput],
 ) -> Result<(), NetFault>
-    ensures { Answers result (limit_fault space inputs.now jobs.now outputs.now) }
+    ensures { TellsFault result (limit_fault space inputs.now jobs.now outputs.now) }
 {
     check_limit(is_space(space), 1, space as usize)?;
     check_limit(inputs.len() <= MOST_INPUTS, 2, inputs.len())?;
@@ -60,7 +60,7 @@ fn is_space(space: u32) -> bool
 }
 
 pub(crate) fn check_limit(holds: bool, field: u8, value: usize) -> Result<(), NetFault>
-    ensures { Answers result (limit holds field value) }
+    ensures { TellsFault result (limit holds field value) }
 {
     if holds {
         Ok(())
@@ -74,7 +74,7 @@ pub(crate) fn check_limit(holds: bool, field: u8, value: usize) -> Result<(), Ne
 
 fn check_inputs(space: u32, inputs: &[NetInput]) -> Result<(), NetFault>
     requires { (space ≡ 2) ⊎ (space ≡ 3) }
-    ensures { Answers result (first_in_turn (input_fault space) [] inputs.now) }
+    ensures { TellsFault result (first_in_turn (input_fault space) [] inputs.now) }
 {
     for (number, input) in inputs.iter().enumerate() {
         if !is_input(space, &inputs[..number], input) {
@@ -88,7 +88,7 @@ fn check_inputs(space: u32, inputs: &[NetInput]) -> Result<(), NetFault>
 }
 
 fn check_terms(jobs: &[Job]) -> Result<(), NetFault>
-    ensures { Answers result (first_in_turn terms_fault [] jobs.now) }
+    ensures { TellsFault result (first_in_turn terms_fault [] jobs.now) }
 {
     for (number, job) in jobs.iter().enumerate() {
         if job.terms.as_slice().len() > MOST_TERMS {
@@ -126,29 +126,12 @@ fn names_input(name: &Name, inputs: &[NetInput]) -> bool
     inputs.iter().any(|input| input.name == *name)
 }
 
-/// The greatest sum of noise tags that a lookup may be given.
-fn noise_limit(space: u32) -> u8
-    requires { (space ≡ 2) ⊎ (space ≡ 3) }
-    ensures { result ≡ noise_limit space }
-{
-    2u8.pow(space) + 1
-}
-
-/// The number of entries of a table.
-fn entry_count(space: u32) -> u8
-    requires { (space ≡ 2) ⊎ (space ≡ 3) }
-    ensures value { result ≡ plaintexts space }
-    ensures high { result ≤ 64 }
-{
-    4u8.pow(space)
-}
-
 fn check_jobs(space: u32, inputs: &[NetInput], jobs: &[Job]) -> Result<(), NetFault>
     requires space { (space ≡ 2) ⊎ (space ≡ 3) }
     requires few_cells { input_cells space inputs.now ≤ 2048 }
     requires few_jobs { length jobs.now ≤ 65536 }
     requires few_terms { InTurn (λ _ (j : Job). length j.terms ≤ 16) [] jobs.now }
-    ensures { Answers result (first_in_turn (job_fault space inputs.now) [] jobs.now) }
+    ensures { TellsFault result (first_in_turn (job_fault space inputs.now) [] jobs.now) }
 {
     for (number, job) in jobs.iter().enumerate() {
         check_job(space, inputs, &jobs[..number], job)?;
@@ -162,7 +145,7 @@ fn check_job(space: u32, inputs: &[NetInput], before: &[Job], job: &Job) -> Resu
     requires few_cells { input_cells space inputs.now ≤ 2048 }
     requires few_jobs { length before.now ≤ 65536 }
     requires few_terms { length job.now.terms ≤ 16 }
-    ensures { Answers result (job_fault space inputs.now before.now job.now) }
+    ensures { TellsFault result (job_fault space inputs.now before.now job.now) }
 {
     let terms = job.terms.as_slice();
     let table = job.table.as_slice();
@@ -191,7 +174,7 @@ pub(crate) fn reach(
     requires few_cells { input_cells space inputs.now ≤ 2048 }
     requires few_jobs { length before.now ≤ 65536 }
     requires few_terms { length terms.now ≤ 16 }
-    ensures fault { Answers result (new_fault space inputs.now before.now terms.now constant table.now) }
+    ensures fault { TellsFault result (new_fault space inputs.now before.now terms.now constant table.now) }
     ensures degree { IfOk result (λ reached. reached
         ≡ reached_of (λ c. get_or (degrees_after space inputs.now before.now) c 0) terms.now constant table.now) }
 {
@@ -215,10 +198,10 @@ fn are_earlier(count: u32, terms: &[Term]) -> bool
 fn check_sum(space: u32, job: u32, sum: TagSums, table: &[u8]) -> Result<u8, NetFault>
     requires space { (space ≡ 2) ⊎ (space ≡ 3) }
     requires order { sum.low ≤ℤ sum.high }
-    ensures fault { Answers result (sum_fault space job sum.low sum.high sum.noise table.now) }
+    ensures fault { TellsFault result (sum_fault space job sum.low sum.high sum.noise table.now) }
     ensures degree { IfOk result (λ reached. reached ≡ greatest_between table.now (natural sum.low) (natural sum.high)) }
 {
-    if sum.low < 0 || sum.high >= i32::from(entry_count(space)) {
+    if sum.low < 0 || sum.high >= i32::from(plaintexts(space)) {
         Err(NetFault::Range {
             job,
             low: sum.low,
@@ -241,7 +224,7 @@ fn is_table(space: u32, table: &[u8]) -> bool
     requires { (space ≡ 2) ⊎ (space ≡ 3) }
     ensures { result ≡ ((length table.now == plaintexts space) && list_all (λ entry. nat_lt entry (plaintexts space)) table.now) }
 {
-    let count = entry_count(space);
+    let count = plaintexts(space);
     table.len() == usize::from(count) && are_below(count, table)
 }
 
@@ -253,7 +236,7 @@ fn are_below(limit: u8, entries: &[u8]) -> bool
 
 fn check_outputs(net: &Net) -> Result<(), NetFault>
     requires { WithinLimits net.now }
-    ensures { Answers result (first_in_turn (output_fault net.now.space (cell_count net.now) (degree net.now)) [] net.now.outputs) }
+    ensures { TellsFault result (first_in_turn (output_fault net.now.space (cell_count net.now) (degree net.now)) [] net.now.outputs) }
 {
     let outputs = net.outputs.as_slice();
     for (number, output) in outputs.iter().enumerate() {

@@ -1,8 +1,10 @@
-//! Nets: straight programs over cells.
+//! Nets (docs/FORMATS.md, Nets): straight programs over cells. A cell holds a number, and has a degree and a
+//! noise tag as a block has in the TFHE-rs handbook, shortint (degree, noise level).
 #![tactic(auto)]
 
 mod evaluate;
 mod fault;
+mod job_words;
 mod laws;
 mod legality;
 mod lists;
@@ -13,10 +15,10 @@ mod tags;
 mod term;
 #[cfg(test)]
 mod tests;
-mod words;
 
-pub use evaluate::{depth, plain};
+pub use evaluate::{are_within, depth, plain};
 pub use fault::NetFault;
+pub use job_words::JobWords;
 pub use laws::net_laws;
 pub use legality::legal;
 pub use lists::{Cells, Jobs, NetInputs, NetOutputs, Table, Terms};
@@ -25,4 +27,3 @@ pub use pen::{NetPen, PenError};
 pub use tag_sums::TagSums;
 pub use tags::greatest_between;
 pub use term::Term;
-pub use words::JobWords;

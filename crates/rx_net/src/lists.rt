@@ -1,4 +1,4 @@
-// Lists that nets are made of, which contracts see as lists.
+//! Lists that nets are made of, which contracts see as lists.
 ghost use Rattle.std.specs.Prelude.{◌≡◌, [], ◌∷◌, ◌++◌, OnOk, OnErr};
 
 use crate::net::{Job, NetInput, NetOutput};
@@ -6,7 +6,7 @@ use crate::term::Term;
 use std::alloc::{AllocError, Global};
 use std::marker::Model;
 
-/// The terms of a job, at most 16.
+/// The terms of a job, at most 16 in a legal net.
 #[derive(Debug, Drop)]
 pub struct Terms {
     terms: Vec<Term>,
@@ -45,7 +45,7 @@ impl Terms {
     }
 }
 
-/// The entries of a job's table, for the indices from 0.
+/// The entries of a job's table, for the indices from 0, `4^space` of them in a legal net.
 #[derive(Debug, Drop)]
 pub struct Table {
     entries: Vec<u8>,
@@ -83,7 +83,7 @@ impl Table {
     }
 }
 
-/// Cells of a net, by their numbers.
+/// Cells of a net, by their numbers from 0.
 #[derive(Debug, Drop)]
 pub struct Cells {
     cells: Vec<u32>,
@@ -121,7 +121,7 @@ impl Cells {
     }
 }
 
-/// The inputs of a net, in order, at most 64.
+/// The inputs of a net, in order, at most 64 in a legal net.
 #[derive(Debug, Drop)]
 pub struct NetInputs {
     inputs: Vec<NetInput>,
@@ -169,7 +169,7 @@ impl NetInputs {
     }
 }
 
-/// The jobs of a net, in order, at most 65,536.
+/// The jobs of a net, in order, at most 65,536 in a legal net.
 #[derive(Debug, Drop)]
 pub struct Jobs {
     jobs: Vec<Job>,
@@ -217,7 +217,7 @@ impl Jobs {
     }
 }
 
-/// The outputs of a net, in order, at most 64.
+/// The outputs of a net, in order, at most 64 in a legal net.
 #[derive(Debug, Drop)]
 pub struct NetOutputs {
     outputs: Vec<NetOutput>,

@@ -1,11 +1,11 @@
-// A net is made input by input, job by job and output by output, and is legal at every moment.
+//! A net is made input by input, job by job and output by output, and is legal at every moment.
 ghost use Rattle.std.specs.Prelude.{◌≡◌, ◌⊎◌, pos, ◌≤ℤ◌, ◌+◌, ◌<◌, ◌≤◌, Some, None, [], ◌∷◌, ◌++◌, length, IfOk, OnErr, OnOk};
 ghost use Rattle.rx_net.specs.declared.net.Job.{Job};
 ghost use Rattle.rx_net.specs.Tags.{natural, greatest_between};
 ghost use Rattle.rx_net.specs.Cells.{cell_count, degree, noise};
 ghost use Rattle.rx_net.specs.Legal.{Legal, JobFits, IsBounded, reached};
 ghost use Rattle.rx_net.specs.Named.{IsNet};
-ghost use Rattle.rx_net.specs.Faults.{Answers, fault_of};
+ghost use Rattle.rx_net.specs.Faults.{TellsFault, fault_of};
 ghost use Rattle.rx_net.specs.Pen.{Tells, empty_net, with_input, with_job, with_output};
 ghost use Rattle.rx_net.specs.Growth.{AddsJob};
 
@@ -74,7 +74,7 @@ impl Model for NetPen {
 }
 
 impl NetPen {
-    /// A pen of a net of this space, without inputs, jobs and outputs.
+    /// A pen of a net of this space, 2 or 3, without inputs, jobs and outputs.
     pub fn new(alloc: Global, space: u32) -> NetPen
         requires { (space ≡ 2) ⊎ (space ≡ 3) }
         ensures { result ≡ empty_net space }
@@ -90,7 +90,7 @@ impl NetPen {
         }
     }
 
-    /// The message bits of a block.
+    /// The message bits of a block, 2 or 3.
     pub fn space(&self) -> u32
         ensures value { result ≡ self.now.space }
         ensures known { (result ≡ 2) ⊎ (result ≡ 3) }
@@ -100,14 +100,14 @@ impl NetPen {
         self.net.space
     }
 
-    /// The number of cells so far.
+    /// The number of cells so far, at most 67,584.
     pub fn cells(&self) -> u32
         ensures { result ≡ cell_count self.now }
     {
         cell_count(&self.net)
     }
 
-    /// The degree of a cell.
+    /// The degree of a cell, by its number below `cells()`.
     pub fn degree(&self, cell: u32) -> u8
         requires { cell < cell_count self.now }
         ensures { result ≡ degree self.now cell }
@@ -130,7 +130,8 @@ impl NetPen {
         net
     }
 
-    /// Adds an input, and answers its first cell. No job was made yet.
+    /// Adds an input, and answers its first cell. No job was made yet. The faults are `Limit` of field 2, where there
+    /// are 64 inputs already, and of field 3, for what is wrong with the input.
     pub fn input(&mut self, input: NetInput) -> Result<u32, PenError>
         requires { self.old.jobs ≡ [] }
         ensures added { IfOk result (λ _. self.new ≡ with_input self.old input) }
@@ -146,7 +147,9 @@ impl NetPen {
         Ok(cell)
     }
 
-    /// Adds a job, which declares the degree that it reaches, and answers its cell.
+    /// Adds a job, which declares the degree that it reaches, and answers its cell. The faults are, in this order,
+    /// `Limit` of field 4, where there are 65,536 jobs already, and of field 5, for more than 16 terms, `Forward`,
+    /// `Range`, `Noise` and `Table`.
     pub fn job(&mut self, terms: &[Term], constant: i16, table: &[u8]) -> Result<u32, PenError>
         ensures added { IfOk result (λ _. self.new ≡ with_job self.old terms.now constant table.now) }
         ensures adds { IfOk result (λ cell. AddsJob self.old self.new cell terms.now constant table.now) }
@@ -159,7 +162,8 @@ impl NetPen {
         Ok(cell)
     }
 
-    /// Adds a job that is known to be lawful, and answers its cell.
+    /// Adds a job that is known to be lawful, and answers its cell. The only error is want of memory, after which the
+    /// pen is as before.
     pub fn place(&mut self, terms: &[Term], constant: i16, table: &[u8]) -> Result<u32, AllocError>
         requires room { length self.old.jobs < 65536 }
         requires few { length terms.now ≤ 16 }
@@ -174,7 +178,8 @@ impl NetPen {
         Ok(cell)
     }
 
-    /// Adds an output.
+    /// Adds an output. The faults are `Limit` of field 6, where there are 64 outputs already, and `Output`, for what is
+    /// wrong with this one.
     pub fn output(
         &mut self,
         name: Name,
@@ -205,7 +210,7 @@ impl NetPen {
 fn check_input(net: &Net, input: &NetInput) -> Result<(), NetFault>
     requires legal { Legal net.now }
     requires first { net.now.jobs ≡ [] }
-    ensures { Answers result (fault_of (with_input net.now input.now)) }
+    ensures { TellsFault result (fault_of (with_input net.now input.now)) }
 {
     let inputs = net.inputs.as_slice();
     let count = inputs.len();
@@ -216,7 +221,7 @@ fn check_input(net: &Net, input: &NetInput) -> Result<(), NetFault>
 /// Tests the net with one job more, and answers the degree of the new cell.
 fn check_job(net: &Net, terms: &[Term], constant: i16, table: &[u8]) -> Result<u8, NetFault>
     requires { Legal net.now }
-    ensures fault { Answers result (fault_of (with_job net.now terms.now constant table.now)) }
+    ensures fault { TellsFault result (fault_of (with_job net.now terms.now constant table.now)) }
     ensures degree { IfOk result (λ d. d ≡ reached (degree net.now) terms.now constant table.now) }
 {
     let inputs = net.inputs.as_slice();
@@ -252,7 +257,7 @@ fn greatest_in(table: &[u8], low: i32, high: i32) -> u8
 /// Tests the net with one output more.
 fn check_output(net: &Net, output: &NetOutput) -> Result<(), NetFault>
     requires { Legal net.now }
-    ensures { Answers result (fault_of (with_output net.now output.now)) }
+    ensures { TellsFault result (fault_of (with_output net.now output.now)) }
 {
     let outputs = net.outputs.as_slice();
     let count = outputs.len();

@@ -1,4 +1,4 @@
-// What the tags of cells say of their weighted sum.
+//! What the tags of cells say of their weighted sum (TFHE-rs handbook, shortint: degree, noise level).
 ghost use Rattle.std.specs.Prelude.{◌≡◌, pos, ◌+ℤ◌, ◌*ℤ◌, ◌+◌, ◌*◌, ◌^◌, ◌≤◌};
 ghost use Rattle.std.specs.Int.RustNames.{unsigned_abs};
 ghost use Rattle.rx_net.specs.Tags.{negative_part, positive_part};
@@ -8,8 +8,11 @@ use crate::term::scaled;
 /// The least and the greatest number that a weighted sum of cells may give, and its noise.
 #[derive(Clone, Copy, Debug, PartialEq, Eq)]
 pub struct TagSums {
+    /// The constant plus the sum of weight times degree over the negative weights.
     pub low: i32,
+    /// The constant plus the sum of weight times degree over the positive weights.
     pub high: i32,
+    /// The sum of the noise tags, each times the size of its weight.
     pub noise: u32,
 }
 

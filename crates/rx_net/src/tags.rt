@@ -1,4 +1,4 @@
-// The degrees and noises of earlier cells, and what a weighted sum makes of them.
+//! The degrees and noises of earlier cells, and what a weighted sum makes of them.
 ghost use Rattle.std.specs.Prelude.{◌≡◌, ◌⊎◌, ◌+◌, ◌<◌, ◌≤◌, length, get_or};
 ghost use Rattle.std.specs.List.{AllByRecursion};
 ghost use Rattle.rx_net.specs.Tags.{low_of, high_of, noise_of, greatest_of, greatest_between};
@@ -11,11 +11,13 @@ use crate::term::Term;
 /// The tags of a cell.
 #[derive(Clone, Copy)]
 pub(crate) struct CellTags {
+    /// The greatest number that the cell may hold.
     pub degree: u8,
+    /// How many times the base noise of a set its noise may have.
     pub noise: u8,
 }
 
-/// The number of input cells.
+/// The number of input cells, at most 2,048.
 pub(crate) fn input_cells(space: u32, inputs: &[NetInput]) -> u32
     requires space { (space ≡ 2) ⊎ (space ≡ 3) }
     requires few { input_cells space inputs.now ≤ 2048 }
@@ -75,7 +77,7 @@ pub(crate) fn sum_tags(
     sums
 }
 
-/// The greatest entry of a table at an index from `low` to `high`.
+/// The greatest entry of a table at an index from `low` to `high`, both of which it has.
 pub fn greatest_between(table: &[u8], low: usize, high: usize) -> u8
     requires order { low ≤ high }
     requires within { high < length table.now }

@@ -1,10 +1,10 @@
-// Nets that are refused, nets that are made, and what they give.
+//! Nets that are refused, nets that are made, and what they give.
 ghost use Rattle.std.specs.Prelude.{◌≡◌};
 ghost use Rattle.rx_params.specs.declared.kind.Kind.TheVariants.{Int as Number};
 
 use crate::{
     Job, Jobs, Net, NetFault, NetInput, NetInputs, NetOutputs, NetPen, PenError, Table, Term,
-    Terms, depth, legal, plain,
+    Terms, are_within, depth, legal, plain,
 };
 use rx_params::{Kind, Name};
 use std::alloc::{AllocError, Global};
@@ -98,6 +98,15 @@ fn a_job_and_its_fault(rt: HostRuntime) -> Result<(), Fail> {
     assert_eq!(rt; loud, Err(NetFault::Noise { job: 0, sum: 6 }));
     let twice = told(alloc, a, &[term(0, 2), term(0, -1), term(0, 0)], 3, 9)?;
     assert_eq!(rt; twice, Ok(()));
+    Ok(())
+}
+
+#[test]
+fn a_constant_alone_that_leaves_the_table(rt: HostRuntime) -> Result<(), Fail> {
+    let alloc = rt.alloc();
+    let Some(a) = Name::of(b"a") else {
+        panic!(rt; "a name");
+    };
     let least = told(alloc, a, &[], -32768, 0)?;
     let below = NetFault::Range {
         job: 0,
@@ -191,6 +200,9 @@ fn a_number_that_is_given_back(rt: HostRuntime) -> Result<(), Fail> {
     pen.input(number(a))?;
     pen.output(a, Kind::Int, 2, &[0])?;
     let net = pen.finish();
+    assert!(rt; are_within(&net, &[3]));
+    assert!(rt; !are_within(&net, &[4]));
+    assert!(rt; !are_within(&net, &[2, 2]));
     let values = plain(alloc, &net, &[2])?;
     assert_eq!(rt; values.as_slice(), &[2][..]);
     Ok(())

@@ -7,7 +7,7 @@ use Rattle.rx_net.specs.declared.term.Term.{Term}
 use Rattle.rx_net.specs.declared.net.Job.{Job}
 use Rattle.rx_net.specs.declared.net.Net.{Net}
 use Rattle.rx_net.specs.Tags.{value_of, natural}
-use Rattle.rx_net.specs.Cells.{input_cells, values_after, looked_up}
+use Rattle.rx_net.specs.Cells.{input_cells, values_after, job_value}
 use Rattle.rx_net.proofs.Evaluates.{values_begin, values_more, length-values, looked_up_is, job_forward, job_few, job_looks_up}
 use Rattle.rx_net.proofs.evaluate.plain.Goals as goal
 
@@ -84,7 +84,7 @@ loop-job-preserved c =
     let r : to_z w32 (of_z w32 c.weighted_sum-index.result) ≡ value_of (λ c. get_or vs c 0) j.constant j.terms =
     to_z-of_z w32 c.weighted_sum-index.result wide ∙ own vs c.deref.result.now j.constant _ j.terms c.as_slice.result.now c.weighted_sum-index.result c.weighted_sum-index.ensures (c.deref.ensures.value ∙ c.loop-job.invariant) (to_z-of_z w16 j.constant fits) c.as_slice.ensures in
     let u = job_looks_up c.args.net.now c.args.inputs.now c.requires.legal c.requires.within c.loop-job.job-index j p e in
-    let x : c.entry_at.result ≡ looked_up j vs =
+    let x : c.entry_at.result ≡ job_value j vs =
     c.entry_at.ensures ∙ ap (λ (table : List ℕ). get_or table (natural (to_z w32 (of_z w32 c.weighted_sum-index.result))) 0) c.as_slice-in-loop-job.ensures
     ∙ ap (λ z. get_or j.table (natural z) 0) r ∙ looked_up_is j vs in
     c.in_ok-push.ensures.items ∙ ap (λ vs. vs ++ c.entry_at.result ∷ []) c.loop-job.invariant ∙ ap (λ x. vs ++ x ∷ []) x

@@ -4,7 +4,7 @@ use Rattle.rx_net.specs.declared.net.Job.{Job}
 use Rattle.rx_net.specs.declared.fault.NetFault.{NetFault}
 use Rattle.rx_net.specs.Cells.{input_cells}
 use Rattle.rx_net.specs.Legal.{InTurn, WithinLimits}
-use Rattle.rx_net.specs.Faults.{Answers, fault_of}
+use Rattle.rx_net.specs.Faults.{TellsFault, fault_of}
 use Rattle.rx_net.proofs.Faults.{passed_on}
 use Rattle.rx_net.proofs.NoFault.{answer_ok, ok_exactly, within, limit_stops, jobs_stop, outputs_left}
 use Rattle.rx_net.proofs.Limits.{few_input_cells}
@@ -57,9 +57,9 @@ check_outputs-requires c = within c.args.net.now c.as_slice-inputs.result.now c.
 pub returns-clause-exact : goal.returns-clause-exact
 returns-clause-exact c =
     answer_ok c.check_outputs.result (fault_of c.args.net.now)
-    (subst (λ (f : Option NetFault). Answers c.check_outputs.result f) (outputs_left c.args.net.now c.as_slice-inputs.result.now c.as_slice-jobs.result.now c.as_slice.result.now c.as_slice-inputs.ensures c.as_slice-jobs.ensures c.as_slice.ensures c.in_ok-check_limits.ensures c.in_ok-check_jobs.ensures) c.check_outputs.ensures)
+    (subst (λ (f : Option NetFault). TellsFault c.check_outputs.result f) (outputs_left c.args.net.now c.as_slice-inputs.result.now c.as_slice-jobs.result.now c.as_slice.result.now c.as_slice-inputs.ensures c.as_slice-jobs.ensures c.as_slice.ensures c.in_ok-check_limits.ensures c.in_ok-check_jobs.ensures) c.check_outputs.ensures)
 
 pub returns-clause-legal : goal.returns-clause-legal
 returns-clause-legal c =
     ok_exactly c.args.net.now c.check_outputs.result
-    (subst (λ (f : Option NetFault). Answers c.check_outputs.result f) (outputs_left c.args.net.now c.as_slice-inputs.result.now c.as_slice-jobs.result.now c.as_slice.result.now c.as_slice-inputs.ensures c.as_slice-jobs.ensures c.as_slice.ensures c.in_ok-check_limits.ensures c.in_ok-check_jobs.ensures) c.check_outputs.ensures)
+    (subst (λ (f : Option NetFault). TellsFault c.check_outputs.result f) (outputs_left c.args.net.now c.as_slice-inputs.result.now c.as_slice-jobs.result.now c.as_slice.result.now c.as_slice-inputs.ensures c.as_slice-jobs.ensures c.as_slice.ensures c.in_ok-check_limits.ensures c.in_ok-check_jobs.ensures) c.check_outputs.ensures)

@@ -8,7 +8,7 @@ use Rattle.rx_net.specs.declared.term.Term.{Term}
 use Rattle.rx_net.specs.declared.fault.NetFault.{NetFault}
 use Rattle.rx_net.specs.Tags.{low_of, high_of, natural, greatest_between}
 use Rattle.rx_net.specs.Cells.{input_cells, degrees_after, noises_after}
-use Rattle.rx_net.specs.Faults.{Answers}
+use Rattle.rx_net.specs.Faults.{TellsFault}
 use Rattle.rx_net.proofs.Fits.{forward_from_test, sum_order, later_fault, earlier_fault, new_fault_is}
 use Rattle.rx_net.proofs.legality.reach.Goals as goal
 
@@ -32,7 +32,7 @@ returns-then-are_earlier-clause-fault c =
     let same = to_z-of_z w16 c.args.constant fits in
     let low : c.sum_tags-sum.result.low ≡ low_of (λ i. get_or (degrees_after c.args.space c.args.inputs.now c.args.before.now) i 0) c.args.constant c.args.terms.now = c.sum_tags-sum.ensures.low ∙ ap (λ k. low_of (λ i. get_or (degrees_after c.args.space c.args.inputs.now c.args.before.now) i 0) k c.args.terms.now) same in
     let high : c.sum_tags-sum.result.high ≡ high_of (λ i. get_or (degrees_after c.args.space c.args.inputs.now c.args.before.now) i 0) c.args.constant c.args.terms.now = c.sum_tags-sum.ensures.high ∙ ap (λ k. high_of (λ i. get_or (degrees_after c.args.space c.args.inputs.now c.args.before.now) i 0) k c.args.terms.now) same in
-    subst (λ (f : Option NetFault). Answers c.check_sum.result f)
+    subst (λ (f : Option NetFault). TellsFault c.check_sum.result f)
     (earlier_fault c.args.space (length c.args.before.now) (input_cells c.args.space c.args.inputs.now + length c.args.before.now) (λ i. get_or (degrees_after c.args.space c.args.inputs.now c.args.before.now) i 0)
     (λ i. get_or (noises_after c.args.space c.args.inputs.now c.args.before.now) i 0) c.args.terms.now c.args.constant c.args.table.now (c.input_cells.result + length c.args.before.now) (omega (arith, c.input_cells.ensures))
     (sym c.are_earlier.ensures ∙ c.if-are_earlier.true) c.sum_tags-sum.result.low c.sum_tags-sum.result.high c.sum_tags-sum.result.noise low high c.sum_tags-sum.ensures.noise

@@ -7,7 +7,7 @@ use mir.Val.{SFits, to_z, of_z}
 use Rattle.rx_net.specs.declared.fault.NetFault.{NetFault}
 use Rattle.rx_net.specs.Cells.{input_cells, degree}
 use Rattle.rx_net.specs.Legal.{reached}
-use Rattle.rx_net.specs.Faults.{Answers, new_fault}
+use Rattle.rx_net.specs.Faults.{TellsFault, new_fault}
 use Rattle.rx_net.proofs.Faults.{passed_on}
 use Rattle.rx_net.proofs.Limits.{few_input_cells}
 use Rattle.rx_net.proofs.Additions.{job_many, job_long, job_tested, degrees_lent}
@@ -31,7 +31,7 @@ pub returns-clause-fault : goal.returns-clause-fault
 returns-clause-fault c =
     let fits : SFits w16 c.args.constant = search rules in
     let same = to_z-of_z w16 c.args.constant fits in
-    subst (λ (f : Option NetFault). Answers c.reach.result f)
+    subst (λ (f : Option NetFault). TellsFault c.reach.result f)
     (ap (λ k. new_fault c.args.net.now.space c.as_slice-inputs.result.now c.as_slice-jobs.result.now c.args.terms.now k c.args.table.now) same
     ∙ job_tested c.args.net.now c.requires c.args.terms.now c.args.constant c.args.table.now c.as_slice-inputs.result.now c.as_slice-jobs.result.now c.as_slice-inputs.ensures c.as_slice-jobs.ensures c.in_ok-check_limit.ensures c.in_ok-check_limit-2.ensures) c.reach.ensures.fault
 
