@@ -6,4 +6,5 @@ pub mod MixedPhases
 pub mod KeptSums
 pub mod KeptNumbers
 pub mod KeptLaws
+pub mod KeptLists
 mod Examples

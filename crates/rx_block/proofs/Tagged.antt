@@ -1,5 +1,5 @@
 -- The sums of tags, one term after another.
-use Rattle.std.proofs.Common.{◌≡◌, ℕ, ℤ, pos, negsuc, ◌+ℤ◌, ◌*ℤ◌, ◌≤ℤ◌, ◌+◌, ◌-◌, ◌*◌, ◌<◌, ◌≤◌, ◌⊎◌, inl, inr, T, not, subst, lit≤, nat_abs, nat_lt, int_lt, rules, Fits, w8, Bool, true, false, Ok, Err, refl, sym, ◌∙◌, ap, arith, add-one, List, [], ◌∷◌, length, get_or, drop}
+use Rattle.std.proofs.Common.{◌≡◌, ℕ, ℤ, pos, ◌+ℤ◌, ◌*ℤ◌, ◌≤ℤ◌, ◌+◌, ◌-◌, ◌*◌, ◌<◌, ◌≤◌, ◌⊎◌, inl, inr, T, not, subst, lit≤, nat_abs, nat_lt, int_lt, rules, Fits, w8, Bool, true, false, Ok, Err, refl, sym, ◌∙◌, ap, arith, add-one, List, [], ◌∷◌, length, get_or, drop}
 use Rattle.std.specs.Int.RustNames.{unsigned_abs}
 use Rattle.std.specs.Int.Signed.{non_neg, yes_non_neg, lt_z_no}
 use Rattle.std.proofs.Math.Seq.{drop-cons}
@@ -63,15 +63,6 @@ noise-more noise terms i d s next w t p e f g h =
     let whole : noise_of noise (drop i terms) ≡ unsigned_abs t.weight * noise t.cell + left =
     ap (noise_of noise) (rest terms i p) ∙ ap (λ x. noise_of noise (x ∷ drop (i + 1) terms)) (sym e) in
     omega (arith, k, whole)
-
--- the least number is not above the greatest
-parts-apart : (w : ℤ) (d : ℕ) → (negative_part w *ℤ pos d) ≤ℤ (positive_part w *ℤ pos d)
-parts-apart (pos n) d = omega (arith, ints)
-parts-apart (negsuc n) d = omega (arith, ints)
-
-pub low-high : (degree : ℕ → ℕ) (constant : ℤ) (ts : List Term) → low_of degree constant ts ≤ℤ high_of degree constant ts
-low-high degree constant [] = omega (arith, ints)
-low-high degree constant (t ∷ ts) = omega (arith, ints, low-high degree constant ts, parts-apart t.weight (degree t.cell))
 
 pub not_less : (a b : ℤ) → int_lt a b ≡ false → b ≤ℤ a
 not_less a b e = let P : Bool → Type 0 = λ v. T (not v) in lt_z_no (subst P (sym e) tt)

@@ -1,4 +1,4 @@
-// Fresh blocks.
+//! Fresh blocks.
 ghost use Rattle.std.specs.Prelude.{◌≡◌, ◌+◌, ◌≤◌, length, IfOk};
 ghost use Rattle.rx_params.specs.Acceptance.{FieldsInRange};
 ghost use Rattle.rx_params.specs.Kinds.{greatest};
@@ -13,7 +13,7 @@ use std::alloc::{AllocError, Global};
 /// Writes the words of the fresh block of a value into `words`, which has a place for each bit of the key
 /// and one more, and gives its tags. It is block `number` of its file: the seeds of its mask and of its
 /// noise serve each block of the file once. The value is at most `2^message_bits - 1`, and at most 1 in a
-/// bit.
+/// bit. Source: handbook, shortint (blocks); the draws `docs/FORMATS.md`, Random streams.
 pub fn fresh_words_into(
     p: &Params,
     key: &SecretKey,

@@ -1,17 +1,17 @@
-// The laws of blocks, as a contract can name them.
+//! The laws of blocks, as a contract can name them.
 ghost use Rattle.rx_block.specs.Laws.{FreshLaws};
 ghost use Rattle.rx_block.specs.NoiseLaws.{KeepsLaws};
 
 use rx_boot::lookup_laws;
 
 /// The phase of a fresh block is within the noise bound of its number times the unit, so the block decodes
-/// to that number, and keeps it.
+/// to that number, and keeps it. Source: `docs/NOISE.md`.
 pub fn fresh_laws()
     ensures { FreshLaws }
 {}
 
 /// A weighted sum of blocks that is not refused keeps the weighted sum of what they keep, a block that is
-/// looked up keeps the table's entry, and a block decrypts to what it keeps.
+/// looked up keeps the table's entry, and a block decrypts to what it keeps. Source: `docs/NOISE.md`.
 pub fn keeps_laws()
     ensures { KeepsLaws }
 {

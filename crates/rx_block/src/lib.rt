@@ -1,4 +1,5 @@
-//! Blocks of numbers under encryption.
+//! Blocks of numbers under encryption, with the tags that bound them: fresh blocks, weighted sums, lookups and what a
+//! block decrypts to. Sources are named as in `docs/DEFINITIONS.md`.
 #![tactic(auto)]
 
 mod block;

@@ -1,9 +1,9 @@
-// Weighted sums of blocks.
+//! Weighted sums of blocks.
 ghost use Rattle.std.specs.Prelude.{◌≡◌, pos, ◌+ℤ◌, ◌*ℤ◌, ◌+◌, ◌-◌, ◌*◌, ◌^◌, ◌≤◌, ◌⊎◌, Ok, Err, MatchResult, OnOk, length};
 ghost use Rattle.std.specs.Int.RustNames.{unsigned_abs};
 ghost use Rattle.rx_laws.specs.Decode.{plaintexts};
 ghost use Rattle.rx_params.specs.Acceptance.{FieldsInRange};
-ghost use Rattle.rx_params.specs.Derived.{large_dim, noise_limit};
+ghost use Rattle.rx_params.specs.Derived.{large_dim};
 ghost use Rattle.rx_net.specs.Tags.{negative_part, positive_part, low_of, high_of, noise_of};
 ghost use Rattle.rx_block.specs.Combine.{AreCellsOf, AreBlocksOf, combined, mixed_words, degree_in, noise_in};
 ghost use Rattle.rx_block.specs.Noise.{KeepsSum};
@@ -11,12 +11,13 @@ ghost use Rattle.rx_block.specs.Noise.{KeepsSum};
 use crate::{Block, TagFault};
 use rx_lwe::{add_scaled, unit};
 use rx_net::{TagSums, Term};
-use rx_params::Params;
+use rx_params::{Params, noise_limit, plaintexts};
 
 /// The weighted sum of blocks, with a constant added: a term names its block by the place in `blocks`.
 /// There are at most 16 terms; the blocks and `out` have the words of the set's blocks. The degree of the
 /// sum is the greatest number that it may give, and its noise tag the sum of the tags, each times the size
 /// of its weight: so it keeps the weighted sum of what the blocks keep. After a refusal `out` is as before.
+/// Source: handbook, shortint (degree, noise level); the limits `docs/NOISE.md`.
 pub fn combine(
     p: &Params,
     blocks: &[Block],
@@ -39,7 +40,7 @@ pub fn combine(
     if low < 0 || high > greatest_number(p.message_bits) {
         return Err(TagFault::Range { low, high });
     }
-    if noise > greatest_noise(p.message_bits) {
+    if noise > u32::from(noise_limit(p.message_bits)) {
         return Err(TagFault::Noise { sum: noise });
     }
     mix_into(p, blocks, terms, constant, out.words.as_mut_slice());
@@ -53,15 +54,7 @@ fn greatest_number(message_bits: u32) -> i32
     requires { (message_bits ≡ 2) ⊎ (message_bits ≡ 3) }
     ensures { result ≡ pos (plaintexts message_bits - 1) }
 {
-    (1 << (2 * message_bits)) - 1
-}
-
-// The greatest sum of noise tags.
-fn greatest_noise(message_bits: u32) -> u32
-    requires { (message_bits ≡ 2) ⊎ (message_bits ≡ 3) }
-    ensures { result ≡ noise_limit message_bits }
-{
-    (1 << message_bits) + 1
+    i32::from(plaintexts(message_bits)) - 1
 }
 
 /// The words of a weighted sum of blocks, with a constant added, whatever their tags are. The blocks and

@@ -1,4 +1,4 @@
-// Tables looked up in blocks.
+//! Tables looked up in blocks.
 ghost use Rattle.std.specs.Prelude.{◌≡◌, ◌+◌, ◌<◌, length};
 ghost use Rattle.rx_laws.specs.Decode.{plaintexts};
 ghost use Rattle.rx_params.specs.Derived.{large_dim};
@@ -11,6 +11,7 @@ use rx_net::greatest_between;
 
 /// Looks a table of `4^message_bits` entries up in a block: `out` becomes a block of the table's entry at
 /// the block's number, with a noise tag of 1 and the greatest entry up to the block's degree as its degree.
+/// Both have the words of the set's blocks. Source: handbook, shortint (lookup tables).
 pub fn lookup(
     scratch: &mut BootScratch,
     key: &ServerKey,

@@ -1,4 +1,4 @@
-// Blocks that come back, and one that is damaged.
+//! Blocks that come back, and one that is damaged.
 use crate::{Damaged, decrypt_block, fresh_block};
 use rx_lwe::SecretKey;
 use rx_params::{Kind, named};

@@ -1,4 +1,4 @@
-// Weighted sums of blocks: their tags, their refusals, and what they decrypt to.
+//! Weighted sums of blocks: their tags, their refusals, and what they decrypt to.
 ghost use Rattle.std.specs.Prelude.{◌≡◌, ◌+◌, length, IfOk};
 ghost use Rattle.rx_params.specs.Acceptance.{FieldsInRange};
 ghost use Rattle.rx_params.specs.Derived.{large_dim};

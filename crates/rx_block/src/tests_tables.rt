@@ -1,4 +1,4 @@
-// A table looked up in a fresh block.
+//! A table looked up in a fresh block.
 use crate::{decrypt_block, fresh_block, lookup};
 use rx_boot::{BootScratch, ServerKey};
 use rx_lwe::SecretKey;

@@ -6,7 +6,8 @@ use Rattle.rx_net.specs.declared.term.Term.{Term}
 use Rattle.rx_net.specs.Tags.{low_of, high_of, noise_of}
 use Rattle.rx_block.specs.Combine.{mixed_words, degree_in, noise_in}
 use Rattle.rx_block.proofs.KeptSums.{kept-sum}
-use Rattle.rx_block.proofs.Tagged.{low-high, degree-fits, refused-low, refused-high, combined-ok}
+use Rattle.rx_net.proofs.Fits.{low_high}
+use Rattle.rx_block.proofs.Tagged.{degree-fits, refused-low, refused-high, combined-ok}
 use mir.Syntax.{w16, w32}
 use mir.Val.{SFits}
 use Rattle.rx_block.proofs.sums.combine.Goals as goal
@@ -57,7 +58,7 @@ overflow_cast-out c =
     let l : ℤ = to_z w32 (of_z w32 c.tag_sums-low.result.low) in
     let h : ℤ = to_z w32 (of_z w32 c.tag_sums-low.result.high) in
     degree-fits m (low_of degree constant terms) (high_of degree constant terms) l h c.requires.fields.message_bits
-    (low-high degree constant terms)
+    (low_high degree constant terms)
     (as_read (λ z. low_of degree z terms) c.tag_sums-low.result.low constant (search rules) c.ranges.constant c.tag_sums-low.ensures.low)
     (as_read (λ z. high_of degree z terms) c.tag_sums-low.result.high constant (search rules) c.ranges.constant c.tag_sums-low.ensures.high)
     c.if-low-lt0.false
@@ -80,7 +81,7 @@ returns-clause-exact c =
     (as_read (λ z. high_of degree z terms) c.tag_sums-low.result.high constant (search rules) c.ranges.constant c.tag_sums-low.ensures.high)
     c.tag_sums-low.ensures.noise c.if-low-lt0.false
     (as_tested c.greatest_number.result (pos (plaintexts m - 1)) h false (search rules) c.greatest_number.ensures c.if-high-greatest_number.false)
-    (omega (arith, c.greatest_noise.ensures, c.if-noise-greatest_noise.false))
+    (omega (arith, c.noise_limit.ensures.value, c.from.ensures, c.if-noise-from.false))
     (overwritten-all c.args.out.now.words c.mix_into.new.out size ∙ c.mix_into.ensures
     ∙ ap (mixed_words c.args.p.now c.args.blocks.now terms) (to_z-of_z w16 constant c.ranges.constant)) refl
 
