@@ -20,7 +20,7 @@ use Rattle.rx_boot.specs.Bootstrap.{bootstrapped}
 use Rattle.rx_boot.specs.ServerKeys.{ServerWords}
 use Rattle.rx_block.specs.declared.block.Block.{Block}
 use Rattle.rx_crew.specs.Kernel.{key_basis, basis_key, job_words}
-use Rattle.rx_net.specs.Cells.{looked_up, values_after, value}
+use Rattle.rx_net.specs.Cells.{job_value, values_after, value}
 use Rattle.rx_crew.specs.Noise.{output_values}
 use Rattle.rx_block.specs.Outputs.{output_blocks}
 use Rattle.rx_crew.specs.Evaluation.{evaluated, zero_block, board_words, board_limit}
@@ -82,5 +82,5 @@ boards = (refl, refl, refl)
 
 -- the values of the same outputs, for the number 2
 values : output_values net (2 ∷ []) ≡ 3 ∷ 2 ∷ 3 ∷ []
-unfolding laid looked_up values_after value
+unfolding laid job_value values_after value
 values = refl

@@ -1,13 +1,11 @@
 -- Every cell of an evaluated net keeps its value, job after job.
-use Rattle.std.proofs.Common.{◌≡◌, ℕ, ◌+◌, ◌<◌, ◌≤◌, List, [], ◌∷◌, ◌++◌, length, get_or, map, sym, subst, ◌∙◌, ap, arith, length-append, append_assoc, append-nil}
-use Rattle.std.specs.List.{AllByRecursion}
-use Rattle.std.proofs.lemmas.List.{length-map, get_or-map}
+use Rattle.std.proofs.Common.{◌≡◌, ℕ, ◌+◌, ◌<◌, ◌≤◌, List, [], ◌∷◌, ◌++◌, length, get_or, sym, subst, ◌∙◌, ap, arith, length-append, append_assoc, append-nil}
 use Rattle.rx_params.specs.declared.params.Params.{Params}
 use Rattle.rx_params.specs.Acceptance.{Accepts}
 use Rattle.rx_net.specs.declared.net.Job.{Job}
 use Rattle.rx_net.specs.declared.net.NetInput.{NetInput}
 use Rattle.rx_net.specs.declared.net.Net.{Net}
-use Rattle.rx_net.specs.Cells.{input_cells, given, laid, looked_up, declared_degree, unit_noise, values_after, degrees_after, noises_after, value, degree, noise}
+use Rattle.rx_net.specs.Cells.{input_cells, given, laid, job_value, declared_degree, unit_noise, values_after, degrees_after, noises_after, value, degree, noise}
 use Rattle.rx_net.specs.Legal.{InTurn, IsJob, Legal}
 use Rattle.rx_net.proofs.Laid.{laid-last}
 use Rattle.rx_net.proofs.Inputs.{length-given, given_degree, given_noise}
@@ -15,16 +13,17 @@ use Rattle.rx_boot.specs.BootKeys.{boot_size}
 use Rattle.rx_boot.specs.ServerKeys.{ServerWords}
 use Rattle.rx_boot.specs.NoiseLaws.{LookupLaws}
 use Rattle.rx_block.specs.declared.block.Block.{Block}
-use Rattle.rx_block.specs.Combine.{no_block, degree_in, noise_in}
-use Rattle.rx_block.specs.Keeps.{Keeps, AreKept}
+use Rattle.rx_block.specs.Combine.{degree_in, noise_in}
+use Rattle.rx_block.specs.Keeps.{AreKept}
 use Rattle.rx_block.specs.NoiseLaws.{KeepsLaws}
 use Rattle.rx_block.specs.Outputs.{numbers_of, output_blocks}
+use Rattle.rx_block.proofs.KeptLists.{numbered_kept}
 use Rattle.rx_crew.specs.Evaluation.{AreInputs, job_block, evaluated}
 use Rattle.rx_crew.specs.Noise.{KeepsCells, KeepsOutputs, output_values}
 use Rattle.rx_crew.specs.Laws.{KeepingLaws}
 use Rattle.rx_crew.proofs.Laying.{evaluated-laid}
 use Rattle.rx_crew.proofs.CellTags.{evaluation_laws}
-use Rattle.rx_crew.proofs.OutputCells.{numbers-below, number-below}
+use Rattle.rx_crew.proofs.OutputCells.{numbers-below}
 use Rattle.rx_crew.proofs.KeptCells.{AreCells, cells-more, cells-kept, are-cells}
 use Rattle.rx_crew.proofs.KeptJob.{Setting, Follows, job-cell}
 
@@ -60,10 +59,10 @@ job-more key small large inputs values before blocks job setting cells is =
     let ns : List ℕ = noises_after p.message_bits inputs before in
     let given_degrees : List ℕ = given p.message_bits (λ (i : NetInput). i.degree) inputs in
     let given_noises : List ℕ = given p.message_bits (λ (i : NetInput). i.noise) inputs in
-    cells-same p large (n + 1) _ (xs ++ looked_up job xs ∷ []) _ (ds ++ job.degree ∷ []) _ (ns ++ 1 ∷ []) _ (blocks ++ job_block key job blocks ∷ [])
+    cells-same p large (n + 1) _ (xs ++ job_value job xs ∷ []) _ (ds ++ job.degree ∷ []) _ (ns ++ 1 ∷ []) _ (blocks ++ job_block key job blocks ∷ [])
     (omega (arith, length-append before (job ∷ [])))
-    (laid-last looked_up values before job) (laid-last declared_degree given_degrees before job) (laid-last unit_noise given_noises before job)
-    (cells-more p large n xs ds ns blocks (looked_up job xs) job.degree 1 (job_block key job blocks) cells
+    (laid-last job_value values before job) (laid-last declared_degree given_degrees before job) (laid-last unit_noise given_noises before job)
+    (cells-more p large n xs ds ns blocks (job_value job xs) job.degree 1 (job_block key job blocks) cells
     (job-cell key small large n xs ds ns blocks job setting cells (follows-from p inputs before job is)))
 
 -- the cells after all jobs
@@ -127,22 +126,6 @@ cells-keep lookup sums key net inputs accepted rows legal space are small large 
 pub keeping_laws_from : LookupLaws → KeepsLaws → KeepingLaws
 keeping_laws_from lookup sums = record { cells = cells-keep lookup sums }
 
--- cells of kept blocks are kept
-numbered-kept : (p : Params) (large : List ℕ) (cells : List Block) (xs : List ℕ) (numbers : List ℕ) → AreKept p large cells xs →
-    AllByRecursion (λ c. c < length cells) numbers →
-    AreKept p large (map (λ c. get_or cells c no_block) numbers) (map (λ c. get_or xs c 0) numbers)
-numbered-kept p large cells xs numbers kept below =
-    let blocks_at : ℕ → Block = λ c. get_or cells c no_block in
-    let xs_at : ℕ → ℕ = λ c. get_or xs c 0 in
-    record {
-      count = length-map numbers xs_at ∙ sym (length-map numbers blocks_at);
-      each = λ k q.
-          let here : k < length numbers = omega (arith, length-map numbers blocks_at) in
-          subst (λ (x : ℕ). Keeps p large (get_or (map blocks_at numbers) k no_block) x) (sym (get_or-map xs_at numbers k 0 0 here))
-          (subst (λ (b : Block). Keeps p large b (get_or xs (get_or numbers k 0) 0)) (sym (get_or-map blocks_at numbers k 0 no_block here))
-          (kept.each (get_or numbers k 0) (number-below (length cells) numbers below k here)));
-    }
-
 -- every output keeps its value
 pub outputs-keep : (key : ServerWords) (net : Net) (inputs outputs : List Block) → Legal net → AreInputs key.params net inputs →
     KeepsCells key net inputs → outputs ≡ output_blocks (evaluated key net inputs) net.outputs → KeepsOutputs key net inputs outputs
@@ -151,5 +134,5 @@ outputs-keep key net inputs outputs legal are keeps same small large values secr
     let cells : List Block = evaluated key net inputs in
     let numbers : List ℕ = numbers_of net.outputs in
     subst (λ (bs : List Block). AreKept key.params large bs (output_values net values)) (sym same)
-    (numbered-kept key.params large cells (values_after values net.jobs) numbers (keeps small large values secret server kept)
+    (numbered_kept key.params large cells (values_after values net.jobs) numbers (keeps small large values secret server kept)
     (numbers-below net (length cells) legal (evaluation_laws.count key net inputs ∙ ap (λ n. n + length net.jobs) are.count)))

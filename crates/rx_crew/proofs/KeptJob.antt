@@ -9,9 +9,9 @@ use Rattle.rx_params.specs.Acceptance.{Accepts}
 use Rattle.rx_net.specs.declared.term.Term.{Term}
 use Rattle.rx_net.specs.declared.net.Job.{Job}
 use Rattle.rx_net.specs.Tags.{value_of, low_of, high_of, noise_of, natural}
-use Rattle.rx_net.specs.Cells.{looked_up, operand_words}
+use Rattle.rx_net.specs.Cells.{job_value, operand_words}
 use Rattle.rx_net.specs.Legal.{JobFits, reached}
-use Rattle.rx_net.proofs.Bounded.{LooksUp, looks_up}
+use Rattle.rx_net.proofs.Bounded.{between_below, LooksUp, looks_up}
 use Rattle.rx_boot.specs.BootKeys.{boot_size}
 use Rattle.rx_boot.specs.ServerKeys.{ServerWords, IsSecret, IsServerKey}
 use Rattle.rx_boot.specs.Bootstrap.{bootstrapped}
@@ -25,7 +25,7 @@ use Rattle.rx_crew.specs.Kernel.{key_basis, job_words}
 use Rattle.rx_crew.specs.Evaluation.{job_block}
 use Rattle.rx_crew.proofs.Operands.{cells-of}
 use Rattle.rx_crew.proofs.Basis.{job_words-same, length-job_block}
-use Rattle.rx_crew.proofs.TermBounds.{noise_of-le, between-below}
+use Rattle.rx_crew.proofs.TermBounds.{noise_of-le}
 use Rattle.rx_crew.proofs.KeptCells.{IsCell, AreCells, cells-sizes, cells-value, cells-noise}
 
 -- a server key of a secret under an accepted set, and the laws of what is kept under it
@@ -94,8 +94,8 @@ sum-near key small large count xs ds ns blocks job setting cells follows =
 job-near : (key : ServerWords) (small large : List ℕ) (count : ℕ) (xs ds ns : List ℕ) (blocks : List Block) (job : Job) →
     Setting key small large → AreCells key.params large count xs ds ns blocks → Follows key.params count ds ns job →
     IsNear key.params large (job_words (key_basis key) job (operand_words (map (λ (b : Block). b.words) blocks) job.terms))
-    (looked_up job xs) (1 * base_of key.params)
-unfolding looked_up
+    (job_value job xs) (1 * base_of key.params)
+unfolding job_value
 job-near key small large count xs ds ns blocks job setting cells follows =
     let p : Params = key.params in
     let x : ℕ = natural (value_of (λ c. get_or xs c 0) job.constant job.terms) in
@@ -117,7 +117,7 @@ degree-below : (p : Params) (count : ℕ) (ds ns : List ℕ) (job : Job) (i : �
 degree-below p count ds ns job i follows inside =
     let some : 0 < length job.table = omega arith in
     subst (λ (d : ℕ). d < plaintexts p.message_bits) (sym follows.declared)
-    (between-below (plaintexts p.message_bits) job.table
+    (between_below (plaintexts p.message_bits) job.table
     (natural (low_of (λ c. get_or ds c 0) job.constant job.terms)) (natural (high_of (λ c. get_or ds c 0) job.constant job.terms))
     (subst (λ (n : ℕ). 0 < n) follows.fits.table_count some) follows.fits.table_entries)
 
@@ -133,15 +133,15 @@ one-within m = omega arith
 -- the block of a job keeps the value that the net gives its cell
 pub job-cell : (key : ServerWords) (small large : List ℕ) (count : ℕ) (xs ds ns : List ℕ) (blocks : List Block) (job : Job) →
     Setting key small large → AreCells key.params large count xs ds ns blocks → Follows key.params count ds ns job →
-    IsCell key.params large (looked_up job xs) job.degree 1 (job_block key job blocks)
-unfolding looked_up
+    IsCell key.params large (job_value job xs) job.degree 1 (job_block key job blocks)
+unfolding job_value
 job-cell key small large count xs ds ns blocks job setting cells follows =
     let p : Params = key.params in
     let up = job-looks_up p large count xs ds ns blocks job cells follows in
     record {
       size = length-job_block key job blocks setting.rows;
       keeps = record {
-        value = equal-le (looked_up job xs) (reached (λ c. get_or ds c 0) job.terms job.constant job.table) job.degree up.entry follows.declared;
+        value = equal-le (job_value job xs) (reached (λ c. get_or ds c 0) job.terms job.constant job.table) job.degree up.entry follows.declared;
         degree = below-le job.degree (plaintexts p.message_bits)
             (degree-below p count ds ns job (natural (value_of (λ c. get_or xs c 0) job.constant job.terms)) follows up.high);
         noise = one-within p.message_bits;

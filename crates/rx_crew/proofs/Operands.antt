@@ -1,6 +1,7 @@
 -- The operands of a job as one list of words, and the blocks that they come from.
 use Rattle.std.proofs.Common.{◌≡◌, ℕ, zero, suc, ℤ, pos, ◌+ℤ◌, ◌*ℤ◌, ◌+◌, ◌-◌, ◌*◌, ◌<◌, List, [], ◌∷◌, ◌++◌, length, get_or, map, if◌then◌else◌, nat_lt, ◌∙◌, ap, arith, suc-mul}
 use Rattle.std.specs.List.{AllByRecursion}
+use Rattle.std.proofs.lemmas.List.Elements.{All-from_recursion}
 use Rattle.std.proofs.lemmas.List.{get_or_append_left, get_or-append_right, get_or-map}
 use Rattle.rx_laws.specs.Torus.{word}
 use Rattle.rx_laws.specs.Words.{words_below}
@@ -17,9 +18,7 @@ use Rattle.rx_crew.specs.Kernel.{mixed_operands}
 
 -- terms that name cells among so many
 pub cells-of : (n : ℕ) (ts : List Term) → AllByRecursion (λ t. t.cell < n) ts → (k : ℕ) → k < length ts → (get_or ts k no_term).cell < n
-cells-of n [] h k p = absurd (omega arith)
-cells-of n (t ∷ ts) h zero p = h.0
-cells-of n (t ∷ ts) h (suc k) p = cells-of n ts h.1 k (omega arith)
+cells-of n ts h k p = All-from_recursion (λ (t : Term). t.cell < n) ts h k no_term p
 
 suc-mul-flip : (a b : ℕ) → suc a * b ≡ b + a * b
 suc-mul-flip a b = let e = suc-mul a b in let c : ℕ = a * b in omega arith

@@ -1,5 +1,5 @@
 -- Blocks in lists.
-use Rattle.std.proofs.Common.{◌≡◌, inl, inr, ℕ, ◌+◌, ◌-◌, ◌*◌, ◌^◌, ◌<◌, List, [], ◌∷◌, ◌++◌, length, get_or, set, map, take, drop, replicate, subst, sym, ◌∙◌, ap, arith}
+use Rattle.std.proofs.Common.{◌≡◌, inl, inr, ℕ, ◌+◌, ◌-◌, ◌^◌, ◌<◌, List, [], ◌∷◌, ◌++◌, length, get_or, set, map, take, drop, replicate, subst, sym, ◌∙◌, ap, arith}
 use Rattle.std.proofs.lemmas.Bool.{cases_eq, cases_lt}
 use Rattle.std.proofs.lemmas.List.{length-set, length-take, length-replicate, get_or-set_same, get_or-set_other, get_or-replicate, get_or-take, take_more, take_more_set, set-append_right, map-append, length_push, get_or_append_left}
 use Rattle.std.proofs.Math.Seq.{take-length, take-append_seam}
@@ -8,7 +8,7 @@ use Rattle.rx_params.specs.declared.params.Params.{Params}
 use Rattle.rx_params.specs.Derived.{large_dim}
 use Rattle.rx_block.specs.declared.block.Block.{Block}
 use Rattle.rx_block.specs.Combine.{no_block, AreBlocksOf}
-use Rattle.rx_block.specs.Outputs.{blocks_at}
+use Rattle.rx_block.specs.Outputs.{numbered_blocks}
 use Rattle.rx_crew.specs.Evaluation.{zero_block, AreWordsOf}
 use Rattle.rx_net.proofs.Laid.{get_or_end}
 
@@ -32,16 +32,11 @@ are-zero p n c q =
     ap (λ (x : Block). length x.words) (get_or-replicate n c (zero_block p) no_block (omega (arith, length-replicate n (zero_block p))))
     ∙ length-replicate (large_dim p + 1) 0
 
-pub zero_block-made : (p : Params) (words : List ℕ) (made : Block) → words ≡ replicate (p.glwe_dim * p.poly_size + 1) 0 →
+pub zero_block-made : (p : Params) (words : List ℕ) (made : Block) → words ≡ replicate (large_dim p + 1) 0 →
     made ≡ record { words = words; degree = 0; noise = 0 } → made ≡ zero_block p
-unfolding large_dim
 zero_block-made p words made e is =
     let of : List ℕ → Block = λ ws. record { words = ws; degree = 0; noise = 0 } in
     is ∙ ap of e
-
-pub sum_size : (p : Params) (n : ℕ) → n ≡ p.glwe_dim * p.poly_size + 1 → n ≡ large_dim p + 1
-unfolding large_dim
-sum_size p n e = e
 
 -- a block beside those before it
 pub set-after : (xs front back : List Block) (n : ℕ) (b : Block) → xs ≡ front ++ back → length front ≡ n → front ++ set back 0 b ≡ set xs n b
@@ -51,11 +46,11 @@ set-after xs front back n b e l =
 
 -- one numbered block more is copied
 pub numbered-more : (from to : List Block) (numbers : List ℕ) (n : ℕ) (b : Block) → n < length numbers → n < length to →
-    b ≡ get_or from (get_or numbers n 0) no_block → take n to ≡ blocks_at from (take n numbers) →
-    take (n + 1) (set to n b) ≡ blocks_at from (take (n + 1) numbers)
+    b ≡ get_or from (get_or numbers n 0) no_block → take n to ≡ numbered_blocks from (take n numbers) →
+    take (n + 1) (set to n b) ≡ numbered_blocks from (take (n + 1) numbers)
 numbered-more from to numbers n b p q e h =
     let at : ℕ → Block = λ c. get_or from c no_block in
-    take_more_set to n b q ∙ ap (λ xs. xs ++ b ∷ []) h ∙ ap (λ x. blocks_at from (take n numbers) ++ x ∷ []) e
+    take_more_set to n b q ∙ ap (λ xs. xs ++ b ∷ []) h ∙ ap (λ x. numbered_blocks from (take n numbers) ++ x ∷ []) e
     ∙ sym (map-append at (take n numbers) (get_or numbers n 0 ∷ [])) ∙ ap (map at) (sym (take_more numbers n 0 p))
 
 -- one block of words more

@@ -1,9 +1,9 @@
-// Blocks in memory of their own: made as zeros, and copied.
+//! Blocks in memory of their own: made as zeros, and copied.
 ghost use Rattle.std.specs.Prelude.{◌≡◌, ◌≤◌, ◌<◌, ◌^◌, IfOk, EachIndex, slice_index, length, take, replicate};
 ghost use Rattle.std.specs.List.{AllByRecursion};
 ghost use Rattle.rx_params.specs.Acceptance.{FieldsInRange};
 ghost use Rattle.rx_block.specs.Combine.{AreBlocksOf};
-ghost use Rattle.rx_block.specs.Outputs.{blocks_at};
+ghost use Rattle.rx_block.specs.Outputs.{numbered_blocks};
 ghost use Rattle.rx_crew.specs.Evaluation.{zero_block, AreWordsOf};
 
 use rx_block::Block;
@@ -16,7 +16,7 @@ fn zero_block(alloc: Global, p: &Params) -> Result<Block, AllocError>
     requires { FieldsInRange p.now }
     ensures { IfOk result (λ block. block ≡ zero_block p.now) }
 {
-    let words = vec![in alloc; 0; p.glwe_dim as usize * p.poly_size as usize + 1]?;
+    let words = vec![in alloc; 0; p.large_dim() as usize + 1]?;
     Ok(Block {
         words: Words::from_vec(words),
         degree: 0,
@@ -74,7 +74,7 @@ pub(crate) fn copy_numbered(p: &Params, from: &[Block], numbers: &[u32], to: &mu
     requires there { AllByRecursion (λ c. c < length from.now) numbers.now }
     requires sizes { AreBlocksOf p.now from.now }
     requires room_sizes { AreBlocksOf p.now to.old }
-    ensures copied { to.new ≡ blocks_at from.now numbers.now }
+    ensures copied { to.new ≡ numbered_blocks from.now numbers.now }
     ensures sizes { AreBlocksOf p.now to.new }
     ensures words { AreWordsOf to.new }
 {

@@ -1,5 +1,6 @@
-// Where a worker enters and leaves a run of a job.
-/// Is told when a worker, by its number from 0, begins and ends a job.
+//! Where a worker enters and leaves a run of a job.
+
+/// Is told when a worker begins and ends a job, both by their numbers from 0.
 pub trait Gate {
     /// A worker is about to run a job.
     fn enter(&self, worker: u32, job: u32);

@@ -1,4 +1,4 @@
-// The kernel that evaluates jobs under encryption.
+//! The kernel that evaluates jobs under encryption.
 use rx_net::JobWords;
 
 /// Names what a job is defined to give under a server key: the bootstrap of the weighted sum of its operands.

@@ -1,4 +1,4 @@
-// The laws of evaluated cells, as a contract can name them.
+//! The laws of evaluated cells, as a contract can name them.
 ghost use Rattle.std.specs.Prelude.{◌≡◌};
 ghost use Rattle.rx_net.specs.Legal.{Legal};
 ghost use Rattle.rx_crew.specs.Evaluation.{AreInputs};

@@ -1,4 +1,5 @@
-//! The evaluation of nets.
+//! The evaluation of nets under a server key: each job is the bootstrap of a weighted sum of earlier cells. Source:
+//! `docs/FORMATS.md`, Nets; what is kept `docs/NOISE.md`.
 #![tactic(auto)]
 
 mod blocks;

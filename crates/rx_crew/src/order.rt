@@ -1,4 +1,4 @@
-// The jobs of a net, one after another.
+//! The jobs of a net, one after another.
 ghost use Rattle.std.specs.Prelude.{◌≡◌, ◌+◌, ◌<◌, length, take, set};
 ghost use Rattle.rx_laws.specs.Decode.{plaintexts};
 ghost use Rattle.rx_params.specs.Derived.{large_dim};

@@ -1,4 +1,4 @@
-// The evaluation of a net.
+//! The evaluation of a net.
 ghost use Rattle.std.specs.Prelude.{◌≡◌, ◌+◌, ◌≤◌, IfOk, length};
 ghost use Rattle.rx_params.specs.Derived.{large_dim};
 ghost use Rattle.rx_net.specs.Legal.{Legal};
@@ -17,7 +17,7 @@ use rx_net::{Net, NetOutput};
 use std::alloc::{AllocError, Global};
 use std::thread::Threads;
 
-/// What a run gave.
+/// What a run gave. `ran` and `finished` add up to the jobs of the net.
 #[derive(Drop)]
 pub struct RunReport {
     /// The blocks of all outputs, one output after another.
@@ -28,10 +28,11 @@ pub struct RunReport {
     pub finished: u32,
 }
 
-/// Evaluates a legal net of the key's message bits over one block for each input cell. Where the inputs keep
-/// numbers, each cell keeps the value that the net gives it for them, and so does each output. All memory is
-/// taken before the first bootstrap. So far the caller runs all jobs in order: no thread is started, whatever
-/// the number of workers is, the gate is not called, and `ran` is 0.
+/// Evaluates a legal net of the key's message bits over one block for each input cell. Where the inputs keep numbers,
+/// each cell keeps the value that the net gives it for them, and so does each output. There are 1 to 64 workers, and
+/// the board has at most `2^25` words of 64 bits. All memory is taken before the first bootstrap. So far the caller
+/// runs all jobs in order: no thread is started, whatever the number of workers is, the gate is not called, and `ran`
+/// is 0.
 pub fn run_net<R: Threads + Sync, G: Gate + Sync>(
     _rt: &R,
     alloc: Global,
@@ -57,7 +58,7 @@ pub fn run_net<R: Threads + Sync, G: Gate + Sync>(
     cells_keep(key, net, inputs);
     let p = key.params();
     let jobs = net.jobs.as_slice().len();
-    let size = p.glwe_dim as usize * p.poly_size as usize + 1;
+    let size = p.large_dim() as usize + 1;
     let numbers = output_cells(alloc, net.outputs.as_slice())?;
     let mut outputs = zero_blocks(alloc, p, numbers.len())?;
     let mut cells = zero_blocks(alloc, p, inputs.len() + jobs)?;

@@ -3,7 +3,7 @@ use Rattle.rx_block.specs.declared.block.Block.{Block}
 use Rattle.rx_block.specs.Combine.{no_block}
 use Rattle.rx_block.proofs.Tagged.{block-read}
 use Rattle.rx_crew.proofs.Placed.{are-set, numbered-more, words-more, words-all}
-use Rattle.rx_crew.proofs.OutputCells.{number-below}
+use Rattle.std.proofs.lemmas.List.Elements.{All-from_recursion}
 use Rattle.rx_crew.proofs.blocks.copy_numbered.Goals as goal
 
 pub loop-place-preserved : goal.loop-place-preserved
@@ -12,7 +12,7 @@ loop-place-preserved c =
     let i : ℕ = c.loop-place.place in
     let number : ℕ = get_or c.args.numbers.now i 0 in
     let here : i < length c.args.numbers.now = omega (arith, c.loop-place-test.true) in
-    let there : number < length from = number-below (length from) c.args.numbers.now c.requires.there i here in
+    let there : number < length from = All-from_recursion (λ k. k < length from) c.args.numbers.now c.requires.there i 0 here in
     let room : i < length c.loop-place.to = omega (arith, c.loop-place.auto.to, c.requires.count) in
     let read : c.copy_block.new.to ≡ get_or from number no_block =
     c.copy_block.ensures.copied ∙ sym (block-read from number c.index-from-number.result c.index-from-number.is there) in

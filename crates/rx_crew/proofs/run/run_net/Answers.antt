@@ -4,12 +4,12 @@ use Rattle.rx_params.specs.Derived.{large_dim}
 use Rattle.rx_block.specs.Combine.{AreBlocksOf}
 use Rattle.rx_crew.specs.Evaluation.{AreWordsOf}
 use Rattle.rx_crew.proofs.Keeping.{outputs-keep}
-use Rattle.rx_crew.proofs.Placed.{sum_size, zeros-are, all-written}
+use Rattle.rx_crew.proofs.Placed.{zeros-are, all-written}
 use Rattle.rx_crew.proofs.run.run_net.Goals as goal
 
 pub evaluate-requires-clause-sum_size : goal.evaluate-requires-clause-sum_size
 evaluate-requires-clause-sum_size g c =
-    sum_size c.params-p.result.now _ (c.deref_mut.ensures.len ∙ c.in_ok-sum.ensures.len)
+    c.deref_mut.ensures.len ∙ c.in_ok-sum.ensures.len ∙ ap (λ n. n + 1) c.large_dim.ensures.value
     ∙ ap (λ (p : Params). large_dim p + 1) c.params-p.ensures.value
 
 pub evaluate-requires-clause-cell_sizes : goal.evaluate-requires-clause-cell_sizes
