@@ -1,10 +1,10 @@
 -- What is read is spelled so, and what is spelled so is read.
-use Rattle.std.proofs.Common.{◌≡◌, ◌≢◌, ◌==◌, ◌<◌, ◌≤◌, ◌^◌, ℕ, Bool, true, false, cond, not, ltb, ◌&&◌, List, [], ◌∷◌, ◌++◌, length, Option, Some, None, Result, Ok, Err, IsTrue, refl, sym, ap, subst, ◌∙◌, append_assoc, arith}
+use Rattle.std.proofs.Common.{◌≡◌, ◌==◌, ◌<◌, ◌≤◌, ◌^◌, ℕ, Bool, true, false, cond, not, ltb, ◌&&◌, List, [], ◌∷◌, ◌++◌, length, Option, Some, None, Result, Ok, Err, IsTrue, refl, sym, ap, subst, ◌∙◌, append_assoc, arith}
 use Rattle.std.specs.Prelude.{decimal, codes, IfOk}
-use Rattle.std.specs.List.{list_all, join_with_byte, AllByRecursion}
+use Rattle.std.specs.List.{join_with_byte, AllByRecursion}
 use Rattle.std.specs.Str.{bytes_eq}
 use Rattle.std.specs.Cmp.Lexicographic.{nat_list_eq_equiv}
-use Rattle.std.proofs.lemmas.Bool.{and_parts, or_parts, or_from, and_from, ltb-true, lt-ltb, leb-true, eqb-true, eq-eqb}
+use Rattle.std.proofs.lemmas.Bool.{and_parts, or_parts, or_from, and_from, ltb-true, lt-ltb, leb-true, eqb-true}
 use Rattle.std.proofs.lemmas.List.{append-nil, length-append}
 use Rattle.std.proofs.lemmas.List.Folds.{list_any-append}
 use Rattle.std.proofs.lemmas.Slice.Eq.{bytes_eq-Decides}
@@ -15,9 +15,11 @@ use Rattle.rx_text.specs.declared.fault.LineCause.{LineCause}
 use Rattle.rx_text.specs.declared.fault.LineCause.TheVariants.{Number, Again, Limit}
 use Rattle.rx_text.specs.declared.fault.LineFault.{LineFault}
 use Rattle.rx_text.specs.Laws.{NumeralLaws, WordLaws, LineLaws}
-use Rattle.rx_text.specs.Lines.{parts_of, words_of, Lacks, IsWord}
+use Rattle.rx_text.specs.Lines.{parts_of, words_of, IsWord}
 use Rattle.rx_text.specs.Names.{is_name}
 use Rattle.rx_text.specs.Numerals.{numeral_of}
+use Rattle.rx_text.proofs.NumeralLemmas.{lacks_all}
+use Rattle.rx_text.proofs.Splits.{line_text}
 use Rattle.rx_params.specs.declared.kind.Kind.{Kind}
 use Rattle.rx_params.specs.declared.kind.Kind.TheVariants.{Int, Bit}
 use Rattle.rx_circuit.specs.declared.values.ValueLine.{ValueLine}
@@ -34,16 +36,9 @@ pub record TextLaws : Type 0 where
 
 -- ---- kinds
 
-lacks_test : (c : ℕ) (xs : List ℕ) → list_all (λ b. not (b == c)) xs ≡ true → Lacks c xs
-lacks_test c [] h = tt
-lacks_test c (x ∷ xs) h =
-    let parts = and_parts (not (x == c)) (list_all (λ b. not (b == c)) xs) h in
-    let apart : x ≢ c = λ e. let hit = eq-eqb x c e in let never : false ≡ true = rw hit at parts.0 in absurd cc in
-    (apart, lacks_test c xs parts.1)
-
 kind_is_word : (kind : Kind) → IsWord (kind_word kind)
-kind_is_word Int = (lacks_test 32 (codes "int") refl, lacks_test 10 (codes "int") refl)
-kind_is_word Bit = (lacks_test 32 (codes "bit") refl, lacks_test 10 (codes "bit") refl)
+kind_is_word Int = (lacks_all (λ b. not (b == 32)) 32 refl (codes "int") refl, lacks_all (λ b. not (b == 10)) 10 refl (codes "int") refl)
+kind_is_word Bit = (lacks_all (λ b. not (b == 32)) 32 refl (codes "bit") refl, lacks_all (λ b. not (b == 10)) 10 refl (codes "bit") refl)
 
 kind_back : (kind : Kind) → kind_of (kind_word kind) ≡ Some kind
 kind_back Int = refl
@@ -197,10 +192,6 @@ one_found : (before : List ValueLine) (part : List ℕ) (rest : List (List ℕ))
     → lines_from before (part ∷ rest) ≡ Ok all → (v : ValueLine) × (line_after before (spelled_line (words_of part)) ≡ Ok v) × (lines_from (before ++ v ∷ []) rest ≡ Ok all)
 one_found before part rest all (Ok v) h some e = (v, sym h, sym (goes_on before part rest v some h) ∙ e)
 one_found before part rest all (Err cause) h some e = let fault = stops before part rest cause some h in absurd cc
-
-line_text : (part words text more : List ℕ) → part ≡ words → text ≡ more → part ++ 10 ∷ text ≡ (words ++ 10 ∷ []) ++ more
-line_text part words text more h k =
-    ap (λ (line : List ℕ). line ++ 10 ∷ text) h ∙ ap (λ (rest : List ℕ). words ++ 10 ∷ rest) k ∙ sym (append_assoc words (10 ∷ []) more)
 
 line_whole : (laws : LineLaws) (part : List ℕ) (words : List (List ℕ)) → words_of part ≡ words → part ≡ join_with_byte 32 words
 line_whole laws part words h = sym (laws.whole_line part) ∙ ap (join_with_byte 32) h

@@ -1,4 +1,4 @@
-// Why a text could not be read.
+//! Why a text could not be read.
 ghost use Rattle.std.specs.Prelude.{◌≡◌};
 ghost use Rattle.rx_circuit.specs.declared.error.ParseError.TheVariants.{Memory};
 

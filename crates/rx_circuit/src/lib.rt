@@ -1,4 +1,4 @@
-//! Value files: the named numbers that a client encrypts.
+//! Value files: the named numbers that a client encrypts. Source: `docs/FORMATS.md`, Texts.
 #![tactic(auto)]
 
 mod error;

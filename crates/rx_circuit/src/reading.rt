@@ -1,4 +1,4 @@
-// Reading a value file line by line, up to the first line that is wrong.
+//! Reading a value file line by line, up to the first line that is wrong.
 ghost use Rattle.std.specs.Prelude.{◌≡◌, ◌+◌, ◌^◌, ◌<◌, ◌≤◌, ◌&&◌, List, length, IfOk, MatchOption, Ok, Err, if◌then◌else◌, nat_lt, option_map};
 ghost use Rattle.rx_text.specs.Faults.{fault_at};
 ghost use Rattle.rx_text.specs.Lines.{words_of};

@@ -1,4 +1,4 @@
-// Value files whose lines or faults are known.
+//! Value files whose lines or faults are known.
 use super::*;
 use rx_params::{Kind, LineCause, LineFault};
 use std::fmt::Write;

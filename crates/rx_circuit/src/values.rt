@@ -1,11 +1,13 @@
-// Value files: named numbers, one a line.
+//! Value files: named numbers, one a line.
 use rx_params::{Kind, Name};
 use std::marker::Model;
 
 /// A line of a value file.
 #[derive(Clone, Copy, Debug, PartialEq, Eq)]
 pub struct ValueLine {
+    /// An int or a bit.
     pub kind: Kind,
+    /// No other line of the file has it.
     pub name: Name,
     /// 1 to 64 for an int, and 1 for a bit.
     pub bits: u32,
