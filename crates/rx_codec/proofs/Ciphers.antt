@@ -1,36 +1,30 @@
 -- The ciphertext file: what is read is spelled so, and what is spelled so is read.
-use Rattle.std.proofs.Common.{◌≡◌, ℕ, zero, suc, ◌+◌, ◌^◌, ◌≤◌, Bool, true, false, ◌||◌, leb, List, [], ◌∷◌, ◌++◌, length, Result, Ok, Err, refl, sym, ap, subst, ◌∙◌, append_assoc, arith}
+use Rattle.std.proofs.Common.{◌≡◌, ℕ, ◌+◌, ◌^◌, Bool, true, false, leb, List, [], ◌∷◌, ◌++◌, length, Result, Ok, Err, refl, sym, ap, subst, ◌∙◌, arith}
 use Rattle.std.specs.Prelude.{IfOk, codes}
 use Rattle.std.specs.List.{flat_map, AllByRecursion}
 use Rattle.std.specs.Str.{bytes_eq}
 use Rattle.std.specs.Int.{w32, to_le_bytes}
-use Rattle.std.proofs.lemmas.Bool.{leb-true, le-leb}
+use Rattle.std.proofs.lemmas.Bool.{leb-true, le-leb, or_parts}
 use Rattle.std.proofs.lemmas.Bool.Decides.{same_from_decides, Decides-like}
 use Rattle.std.proofs.lemmas.Slice.Eq.{bytes_eq-Decides}
-use Rattle.std.proofs.lemmas.List.{append-nil}
 use Rattle.std.proofs.lemmas.List.Folds.{list_any-append}
-use Rattle.std.proofs.lemmas.List.Concat.{flat_map-cons}
 use Rattle.rx_params.specs.declared.params.Params.{Params}
-use Rattle.rx_params.specs.Acceptance.{Accepts}
+use Rattle.rx_net.specs.Legal.{InTurn}
 use Rattle.rx_codec.specs.declared.cipher.Item.{Item}
 use Rattle.rx_codec.specs.declared.cipher.Cipher.{Cipher}
 use Rattle.rx_codec.specs.declared.fault.CodecFault.{CodecFault}
 use Rattle.rx_codec.specs.Reading.{◌>>=◌, Gives, number_at, in_range, magic_at, ends_at}
 use Rattle.rx_codec.specs.ParamsFields.{params_bytes, params_at}
 use Rattle.rx_codec.specs.CipherFile.{has_item, item_bytes, cipher_bytes, IsItem, ItemsOnce, CipherFile, item_at, items_at, cipher_from}
-use Rattle.rx_codec.proofs.Accepted.{checked_accepts}
-use Rattle.rx_codec.proofs.Fields.{IsBytes, Stands, Stands-then, Stands-first, Stands-second, Stands-nothing, Stands-whole, whole-Stands, bind_ok, ok_is, wide32, number_takes, number_again, in_range_takes, magic_takes, magic_again, ends_takes, ends_again}
+use Rattle.rx_codec.proofs.Fields.{IsBytes, Stands, Stands-then, Stands-first, Stands-second, Stands-whole, whole-Stands, bind_ok, wide32, number_takes, number_again, in_range_takes, magic_takes, magic_again, ends_takes, ends_again}
 use Rattle.rx_codec.proofs.Params.{params_takes, params_again}
-use Rattle.rx_codec.proofs.ItemFields.{item_takes, item_again}
+use Rattle.rx_codec.proofs.Manys.{many_takes, many_again, each_of_turn}
+use Rattle.rx_codec.proofs.ItemFields.{ItemFits, item_tells}
 
 -- ---- names that stand once
 
-eq_symm : (a b : List ℕ) → bytes_eq a b ≡ bytes_eq b a
+pub eq_symm : (a b : List ℕ) → bytes_eq a b ≡ bytes_eq b a
 eq_symm a b = same_from_decides (bytes_eq a b) (bytes_eq b a) (bytes_eq-Decides a b) (Decides-like (bytes_eq b a) sym sym (bytes_eq-Decides b a))
-
-or_false : (a b : Bool) → (a || b) ≡ false → (a ≡ false) × (b ≡ false)
-or_false true b e = absurd cc
-or_false false b e = (refl, e)
 
 -- no item of the list has a name of an earlier one
 abbrev AreNew : List Item → List Item → Type 0
@@ -38,8 +32,8 @@ AreNew before items = AllByRecursion (λ i. has_item i.name before ≡ false) it
 
 new_one : (before : List Item) (f : Item) (name : List ℕ) → has_item name (before ++ f ∷ []) ≡ false → (has_item name before ≡ false) × (bytes_eq f.name name ≡ false)
 new_one before f name e =
-    let parts = or_false (has_item name before) (has_item name (f ∷ [])) (sym (list_any-append (λ (i : Item). bytes_eq i.name name) before (f ∷ [])) ∙ e) in
-    (parts.0, (or_false (bytes_eq f.name name) false parts.1).0)
+    let parts = or_parts (has_item name before) (has_item name (f ∷ [])) (sym (list_any-append (λ (i : Item). bytes_eq i.name name) before (f ∷ [])) ∙ e) in
+    (parts.0, (or_parts (bytes_eq f.name name) false parts.1).0)
 
 new_all : (before : List Item) (f : Item) (items : List Item) → AreNew (before ++ f ∷ []) items → (has_item f.name items ≡ false) × AreNew before items
 new_all before f [] h = (refl, tt)
@@ -52,7 +46,7 @@ new_all before f (i ∷ items) h =
 still_new : (before : List Item) (f : Item) (items : List Item) → has_item f.name items ≡ false → AreNew before items → AreNew (before ++ f ∷ []) items
 still_new before f [] e h = tt
 still_new before f (i ∷ items) e h =
-    let parts = or_false (bytes_eq i.name f.name) (has_item f.name items) e in
+    let parts = or_parts (bytes_eq i.name f.name) (has_item f.name items) e in
     let differs : bytes_eq f.name i.name ≡ false = eq_symm f.name i.name ∙ parts.0 in
     let none : has_item i.name before ≡ false = h.0 in
     (list_any-append (λ (j : Item). bytes_eq j.name i.name) before (f ∷ []) ∙ rw (none, differs) refl, still_new before f items parts.1 h.1)
@@ -63,51 +57,17 @@ none_before (i ∷ items) = (refl, none_before items)
 
 -- ---- lists of items
 
-record TakenItems (p : Params) (count : ℕ) (before : List Item) (file : List ℕ) (at : ℕ) (x : List Item × ℕ) : Type 0 where
-  more : List Item
-  value : x.0 ≡ before ++ more
-  there : Stands file at (flat_map item_bytes more) x.1
-  count-is : length more ≡ count
-  fits : AllByRecursion (IsItem p) more
-  new : AreNew before more
-  once : ItemsOnce more
+items_once : (p : Params) (before items : List Item) → InTurn (ItemFits p) before items → AreNew before items × ItemsOnce items
+items_once p before [] h = (tt, tt)
+items_once p before (i ∷ items) h =
+    let rest = items_once p (before ++ i ∷ []) items h.1 in
+    let new = new_all before i items rest.0 in
+    ((h.0.once, new.1), (new.0, rest.1))
 
-items_take : (p : Params) (count : ℕ) (before : List Item) (file : List ℕ) (at : ℕ) (x : List Item × ℕ) → IsBytes file → at ≤ length file → items_at p count before file at ≡ Ok x → TakenItems p count before file at x
-items_take p zero before file at x fits le e =
-    let value : List Item × ℕ = (before, at) in
-    subst (TakenItems p 0 before file at) (ok_is value x e)
-    (record { more = []; value = sym (append-nil before); there = Stands-nothing file at le; count-is = refl; fits = tt; new = tt; once = tt })
-items_take p (suc count) before file at x fits le e =
-    let a = bind_ok (item_at p before file at) (λ item. items_at p count (before ++ item.0 ∷ []) file item.1) x e in
-    let t = item_takes p before file at a.0 fits a.1 in
-    let r = items_take p count (before ++ a.0.0 ∷ []) file a.0.1 x fits t.there.within a.2 in
-    let new = new_all before a.0.0 r.more r.new in
-    record {
-      more = a.0.0 ∷ r.more;
-      value = r.value ∙ append_assoc before (a.0.0 ∷ []) r.more;
-      there = subst (λ (text : List ℕ). Stands file at text x.1) (sym (flat_map-cons item_bytes a.0.0 r.more))
-          (Stands-then file at (item_bytes a.0.0) a.0.1 (flat_map item_bytes r.more) x.1 t.there r.there);
-      count-is = ap suc r.count-is;
-      fits = (t.fits, r.fits);
-      new = (t.once, new.1);
-      once = (new.0, r.once);
-    }
-
-abbrev read_of : List Item → ℕ → Result (List Item × ℕ) CodecFault
-read_of items after = Ok (items, after)
-
-items_again : (p : Params) (items before : List Item) (file : List ℕ) (at after : ℕ) → Accepts p → AllByRecursion (IsItem p) items → AreNew before items → ItemsOnce items → Stands file at (flat_map item_bytes items) after → items_at p (length items) before file at ≡ Ok (before ++ items, after)
-items_again p [] before file at after accepted fits new once there =
-    let here : at ≡ after = omega (arith, there.end) in
-    ap (read_of before) here ∙ ap (λ (is : List Item). read_of is after) (sym (append-nil before))
-items_again p (i ∷ items) before file at after accepted fits new once there =
-    let text = item_bytes i in
-    let whole : Stands file at (text ++ flat_map item_bytes items) after = subst (λ (t : List ℕ). Stands file at t after) (flat_map-cons item_bytes i items) there in
-    let first = Stands-first file at text (flat_map item_bytes items) after whole in
-    let second = Stands-second file at text (flat_map item_bytes items) after whole in
-    ap (λ (r : Result (Item × ℕ) CodecFault). r >>= λ item. items_at p (length items) (before ++ item.0 ∷ []) file item.1) (item_again p before file at i (at + length text) accepted fits.0 new.0 first)
-    ∙ items_again p items (before ++ i ∷ []) file (at + length text) after accepted fits.1 (still_new before i items once.0 new.1) once.1 second
-    ∙ ap (λ (is : List Item). read_of is after) (append_assoc before (i ∷ []) items)
+items_fit : (p : Params) (before items : List Item) → AllByRecursion (IsItem p) items → AreNew before items → ItemsOnce items → InTurn (ItemFits p) before items
+items_fit p before [] each new once = tt
+items_fit p before (i ∷ items) each new once =
+    (record { is = each.0; once = new.0 }, items_fit p (before ++ i ∷ []) items each.1 (still_new before i items once.0 new.1) once.1)
 
 -- ---- the whole file
 
@@ -121,16 +81,10 @@ after_count p file count = items_at p count.0 [] file count.1 >>= λ items. ends
 abbrev after_params : List ℕ → Params × ℕ → Result Cipher CodecFault
 after_params file params = number_at w32 file params.1 >>= λ count. in_range (leb count.0 64) params.1 count >>= after_count params.0 file
 
-record TakenCipher (file : List ℕ) (c : Cipher) : Type 0 where
-  count : length c.items ≤ 64
-  items : AllByRecursion (IsItem c.params) c.items
-  once : ItemsOnce c.items
-  spelled : file ≡ cipher_bytes c
-  accepted : Accepts c.params
-
-cipher_takes : (file : List ℕ) (c : Cipher) → IsBytes file → cipher_from file ≡ Ok c → TakenCipher file c
+-- what is read is a ciphertext file
+pub cipher_spelled : (file : List ℕ) (c : Cipher) → IsBytes file → cipher_from file ≡ Ok c → CipherFile file c
 unfolding cipher_from
-cipher_takes file c fits e =
+cipher_spelled file c fits e =
     let magic = bind_ok (magic_at (codes "RXE1") file) (λ after. params_at file after >>= after_params file) c e in
     let params = bind_ok (params_at file magic.0) (after_params file) c magic.2 in
     let p = params.0.0 in
@@ -143,7 +97,7 @@ cipher_takes file c fits e =
     let t0 = magic_takes (codes "RXE1") file magic.0 magic.1 in
     let t1 = params_takes file magic.0 params.0 fits t0.within params.1 in
     let t2 = number_takes w32 (2 ^ 32) wide32 file params.0.1 number.0 fits number.1 in
-    let t3 = items_take p number.0.0 [] file number.0.1 items.0 fits t2.0.within items.1 in
+    let t3 = many_takes (item_at p) item_bytes (ItemFits p) (item_tells p t1.accepted) number.0.0 [] file number.0.1 items.0 fits t2.0.within items.1 in
     let items-are : t3.more ≡ items.0.0 = sym t3.value in
     let size : length t3.more ≡ number.0.0 = t3.count-is in
     let e01 = Stands-then file 0 (codes "RXE1") magic.0 (params_bytes p) params.0.1 t0 t1.there in
@@ -152,19 +106,15 @@ cipher_takes file c fits e =
     let whole : file ≡ cipher_bytes (cipher_of p t3.more) =
     whole-Stands file _ items.0.1 e03 end.0
     ∙ ap (λ (n : ℕ). codes "RXE1" ++ params_bytes p ++ to_le_bytes w32 n ++ flat_map item_bytes t3.more) (sym size) in
-    subst (TakenCipher file) (ap (cipher_of p) items-are ∙ end.1) (record {
-      count = omega (arith, size, leb-true _ _ test.0);
-      items = t3.fits;
-      once = t3.once;
+    subst (CipherFile file) (ap (cipher_of p) items-are ∙ end.1) (record {
+      fits = record {
+        accepted = t1.accepted;
+        count = omega (arith, size, leb-true _ _ test.0);
+        items = each_of_turn (ItemFits p) (IsItem p) (λ before i h. h.is) [] t3.more t3.fits;
+        once = (items_once p [] t3.more t3.fits).1;
+      };
       spelled = whole;
-      accepted = checked_accepts p t1.bounds t1.checks;
     })
-
--- what is read is a ciphertext file
-pub cipher_spelled : (file : List ℕ) (c : Cipher) → IsBytes file → cipher_from file ≡ Ok c → CipherFile file c
-cipher_spelled file c fits e =
-    let t = cipher_takes file c fits e in
-    record { fits = record { accepted = t.accepted; count = t.count; items = t.items; once = t.once }; spelled = t.spelled }
 
 pub cipher_found : (file : List ℕ) (result : Result Cipher CodecFault) → IsBytes file → Gives (λ c. c) result (cipher_from file) → IfOk result (λ c. CipherFile file c)
 cipher_found file (Ok c) fits exact = cipher_spelled file c fits exact
@@ -192,7 +142,8 @@ cipher_again file c h =
     (number_again w32 (2 ^ 32) wide32 file _ (length c.items) _ s2 (omega (arith, h.fits.count)))
     ∙ ap (λ (b : Bool). in_range b (0 + length (magic ++ params)) (length c.items, 0 + length (magic ++ params ++ count)) >>= after_count c.params file) few
     ∙ ap (λ (r : Result (List Item × ℕ) CodecFault). r >>= λ is. ends_at file is.1 (cipher_of c.params is.0))
-    (items_again c.params c.items [] file _ (length file) h.fits.accepted h.fits.items (none_before c.items) h.fits.once s3)
+    (many_again (item_at c.params) item_bytes (ItemFits c.params) (item_tells c.params h.fits.accepted) c.items [] file _ (length file)
+    (items_fit c.params [] c.items h.fits.items (none_before c.items) h.fits.once) s3)
     ∙ ends_again file (length file) (cipher_of c.params c.items) refl
 
 pub cipher_only : (file : List ℕ) (result : Result Cipher CodecFault) (c : Cipher) → Gives (λ d. d) result (cipher_from file) → CipherFile file c → Gives (λ d. d) result (Ok c)

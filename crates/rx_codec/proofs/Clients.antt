@@ -2,28 +2,21 @@
 use Rattle.std.proofs.Common.{◌≡◌, ℕ, ◌+◌, List, ◌++◌, length, Result, Ok, Err, refl, sym, ap, subst, ◌∙◌}
 use Rattle.std.specs.Prelude.{IfOk, codes}
 use Rattle.rx_params.specs.declared.params.Params.{Params}
-use Rattle.rx_params.specs.Acceptance.{Accepts}
 use Rattle.rx_codec.specs.declared.client.Client.{Client}
 use Rattle.rx_codec.specs.declared.fault.CodecFault.{CodecFault}
 use Rattle.rx_codec.specs.Reading.{◌>>=◌, bytes_at, magic_at, ends_at}
 use Rattle.rx_codec.specs.ParamsFields.{params_bytes, params_at}
 use Rattle.rx_codec.specs.ClientFile.{ClientFile, client_bytes, client_from}
-use Rattle.rx_codec.proofs.Accepted.{checked_accepts}
 use Rattle.rx_codec.proofs.Fields.{IsBytes, IsBytes-within, Stands, Stands-then, Stands-first, Stands-second, Stands-whole, whole-Stands, bind_ok, bytes_takes, bytes_again, magic_takes, magic_again, ends_takes, ends_again}
 use Rattle.rx_codec.proofs.Params.{params_takes, params_again}
 
 abbrev client_of : Params → List ℕ → Client
 client_of params seed = record { params = params; seed = seed }
 
-record TakenClient (file : List ℕ) (c : Client) : Type 0 where
-  size : length c.seed ≡ 32
-  bytes : IsBytes c.seed
-  spelled : file ≡ client_bytes c
-  accepted : Accepts c.params
-
-client_takes : (file : List ℕ) (c : Client) → IsBytes file → client_from file ≡ Ok c → TakenClient file c
+-- what is read is a client file
+pub client_spelled : (file : List ℕ) (c : Client) → IsBytes file → client_from file ≡ Ok c → ClientFile file c
 unfolding client_from
-client_takes file c fits e =
+client_spelled file c fits e =
     let magic = bind_ok (magic_at (codes "RXC1") file) (λ after. params_at file after >>= λ params. bytes_at file 32 params.1 >>= λ seed. ends_at file seed.1 (client_of params.0 seed.0)) c e in
     let params = bind_ok (params_at file magic.0) (λ params. bytes_at file 32 params.1 >>= λ seed. ends_at file seed.1 (client_of params.0 seed.0)) c magic.2 in
     let seed = bind_ok (bytes_at file 32 params.0.1) (λ seed. ends_at file seed.1 (client_of params.0.0 seed.0)) c params.2 in
@@ -33,18 +26,11 @@ client_takes file c fits e =
     let t2 = bytes_takes file 32 params.0.1 seed.0 seed.1 in
     let e01 = Stands-then file 0 (codes "RXC1") magic.0 (params_bytes params.0.0) params.0.1 t0 t1.there in
     let e02 = Stands-then file 0 (codes "RXC1" ++ params_bytes params.0.0) params.0.1 seed.0.0 seed.0.1 e01 t2.0 in
-    subst (TakenClient file) end.1 (record {
-      size = t2.1;
-      bytes = IsBytes-within file params.0.1 seed.0.0 seed.0.1 fits t2.0;
+    let bytes : IsBytes seed.0.0 = IsBytes-within file params.0.1 seed.0.0 seed.0.1 fits t2.0 in
+    subst (ClientFile file) end.1 (record {
+      fits = record { accepted = t1.accepted; size = t2.1; bytes = λ i lt. bytes i };
       spelled = whole-Stands file (client_bytes (client_of params.0.0 seed.0.0)) seed.0.1 e02 end.0;
-      accepted = checked_accepts params.0.0 t1.bounds t1.checks;
     })
-
--- what is read is a client file
-pub client_spelled : (file : List ℕ) (c : Client) → IsBytes file → client_from file ≡ Ok c → ClientFile file c
-client_spelled file c fits e =
-    let t = client_takes file c fits e in
-    record { fits = record { accepted = t.accepted; size = t.size; bytes = λ i lt. t.bytes i }; spelled = t.spelled }
 
 pub client_found : (file : List ℕ) (result : Result Client CodecFault) → IsBytes file → result ≡ client_from file → IfOk result (λ c. ClientFile file c)
 client_found file (Ok c) fits exact = client_spelled file c fits (sym exact)

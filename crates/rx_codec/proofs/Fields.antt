@@ -1,5 +1,5 @@
 -- A field that is read is the field that was written, and what was written is read again, wherever it stands.
-use Rattle.std.proofs.Common.{◌≡◌, ℕ, ◌+◌, ◌-◌, ◌^◌, ◌<◌, ◌≤◌, Bool, true, false, ◌&&◌, cond, leb, List, [], ◌∷◌, ◌++◌, length, get_or, take, drop, Result, Ok, Err, refl, sym, ap, subst, ◌∙◌, append_assoc, arith, inl, inr}
+use Rattle.std.proofs.Common.{◌≡◌, ℕ, ◌+◌, ◌-◌, ◌^◌, ◌<◌, ◌≤◌, Bool, true, false, cond, leb, List, [], ◌∷◌, ◌++◌, length, get_or, take, drop, Result, Ok, Err, refl, sym, ap, subst, ◌∙◌, append_assoc, arith, inl, inr}
 use Rattle.std.specs.Prelude.{nat_le}
 use Rattle.std.specs.List.{slice_range}
 use Rattle.std.specs.Int.{Width, w8, w16, w32, w64, byte_len, from_le_bytes, to_le_bytes}
@@ -204,10 +204,6 @@ pub ends_again : {A : Type 0} (file : List ℕ) (at : ℕ) (x : A) → at ≡ le
 ends_again file at x e = let le : leb (length file) at ≡ true = le-leb _ _ (omega (arith, e)) in rw le refl
 
 -- ---- a byte that passes a test
-
-pub both : (a b : Bool) → (a && b) ≡ true → (a ≡ true) × (b ≡ true)
-both true b e = (refl, e)
-both false b e = absurd cc
 
 pub record TakenByte {B : Type 0} (test : ℕ → Bool) (file : List ℕ) (at : ℕ) (f : ℕ × ℕ → Result B CodecFault) (y : B) : Type 0 where
   pub byte : ℕ

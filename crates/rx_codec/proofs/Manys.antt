@@ -1,14 +1,14 @@
 -- Lists of which each entry is told by those before it: what is read is spelled so, and what is spelled so is read.
-use Rattle.std.proofs.Common.{◌≡◌, ℕ, zero, suc, ◌+◌, ◌<◌, ◌≤◌, Bool, true, leb, List, [], ◌∷◌, ◌++◌, length, Result, Ok, refl, sym, ap, subst, ◌∙◌, append_assoc, arith}
-use Rattle.std.specs.List.{flat_map}
-use Rattle.std.specs.Int.{Width, to_le_bytes}
+use Rattle.std.proofs.Common.{◌≡◌, ℕ, zero, suc, ◌+◌, ◌^◌, ◌<◌, ◌≤◌, Bool, true, leb, List, [], ◌∷◌, ◌++◌, length, Result, Ok, refl, sym, ap, subst, ◌∙◌, append_assoc, arith}
+use Rattle.std.specs.List.{flat_map, AllByRecursion}
+use Rattle.std.specs.Int.{Width, w32, to_le_bytes}
 use Rattle.std.proofs.lemmas.Bool.{leb-true, le-leb}
 use Rattle.std.proofs.lemmas.List.{append-nil}
 use Rattle.std.proofs.lemmas.List.Concat.{flat_map-cons}
 use Rattle.rx_net.specs.Legal.{InTurn}
 use Rattle.rx_codec.specs.declared.fault.CodecFault.{CodecFault}
 use Rattle.rx_codec.specs.Reading.{◌>>=◌, number_at, in_range, many_at, count_at, list_bytes, list_at}
-use Rattle.rx_codec.proofs.Fields.{IsBytes, Stands, Stands-then, Stands-first, Stands-second, Stands-nothing, bind_ok, ok_is, IsWide, number_takes, number_again, in_range_takes}
+use Rattle.rx_codec.proofs.Fields.{IsBytes, Stands, Stands-then, Stands-first, Stands-second, Stands-nothing, bind_ok, ok_is, IsWide, wide32, number_takes, number_again, in_range_takes}
 
 -- how one entry is read after those before it
 abbrev pub Reads : Type 0 → Type 0
@@ -59,6 +59,26 @@ many_again {A} one spell Fits tells (x ∷ xs) before file at after fits there =
     ap (λ (r : Result (A × ℕ) CodecFault). r >>= λ y. many_at one (length xs) (before ++ y.0 ∷ []) file y.1) (tells.again before file at x (at + length text) fits.0 first)
     ∙ many_again one spell Fits tells xs (before ++ x ∷ []) file (at + length text) after fits.1 second
     ∙ ap (λ (ys : List A). read_of ys after) (append_assoc before (x ∷ []) xs)
+
+-- what each entry is after those before it, and what it is by itself
+pub each_of_turn : {A : Type 0} (Fits : List A → A → Type 0) (P : A → Type 0) → ((before : List A) (x : A) → Fits before x → P x) → (before xs : List A) → InTurn Fits before xs → AllByRecursion P xs
+each_of_turn Fits P is before [] h = tt
+each_of_turn Fits P is before (x ∷ xs) h = (is before x h.0, each_of_turn Fits P is (before ++ x ∷ []) xs h.1)
+
+pub turn_of_each : {A : Type 0} (P : A → Type 0) (Fits : List A → A → Type 0) → ((before : List A) (x : A) → P x → Fits before x) → (before xs : List A) → AllByRecursion P xs → InTurn Fits before xs
+turn_of_each P Fits is before [] h = tt
+turn_of_each P Fits is before (x ∷ xs) h = (is before x h.0, turn_of_each P Fits is (before ++ x ∷ []) xs h.1)
+
+-- ---- numbers of four bytes
+
+abbrev pub IsFourBytes : List ℕ → ℕ → Type 0
+IsFourBytes before n = n < 2 ^ 32
+
+pub four_bytes_tells : Tells (λ before. number_at w32) (to_le_bytes w32) IsFourBytes
+four_bytes_tells = record {
+  takes = λ before file at x fits e. number_takes w32 (2 ^ 32) wide32 file at x fits e;
+  again = λ before file at x after fits there. number_again w32 (2 ^ 32) wide32 file at x after there fits;
+}
 
 -- ---- how many, and then all of them
 

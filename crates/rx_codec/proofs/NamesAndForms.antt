@@ -2,7 +2,7 @@
 use Rattle.std.proofs.Common.{◌≡◌, ℕ, ◌+◌, ◌^◌, ◌<◌, ◌≤◌, Bool, true, false, ◌&&◌, not, cond, leb, eqb, List, [], ◌∷◌, length, Some, None, Result, Ok, Err, refl, sym, ap, subst, ◌∙◌, arith, lit<}
 use Rattle.std.specs.Int.{w8, to_le_bytes}
 use Rattle.std.proofs.Math.Nat.{mod-eq_of_lt}
-use Rattle.std.proofs.lemmas.Bool.{leb-true, le-leb, eqb-true}
+use Rattle.std.proofs.lemmas.Bool.{leb-true, le-leb, eqb-true, and_parts, not-true}
 use Rattle.rx_text.specs.Names.{is_name, is_letter}
 use Rattle.rx_params.specs.declared.kind.Kind.{Kind}
 use Rattle.rx_params.specs.declared.kind.Kind.TheVariants.{Int, Bit}
@@ -10,19 +10,15 @@ use Rattle.rx_params.specs.Kinds.{is_form}
 use Rattle.rx_codec.specs.declared.fault.CodecFault.{CodecFault}
 use Rattle.rx_codec.specs.Reading.{◌>>=◌, bytes_at, number_at, in_range}
 use Rattle.rx_codec.specs.NamedFields.{kind_code, name_size_at, name_at, kind_of_code, known_kind, form_at}
-use Rattle.rx_codec.proofs.Fields.{IsBytes, Stands, Stands-then, Stands-first, Stands-second, bind_ok, ok_is, both, bytes_takes, bytes_again, wide8, number_takes, number_again, in_range_takes, byte_then, byte_takes, byte_again}
+use Rattle.rx_codec.proofs.Fields.{IsBytes, Stands, Stands-then, Stands-first, Stands-second, bind_ok, ok_is, bytes_takes, bytes_again, wide8, number_takes, number_again, in_range_takes, byte_then, byte_takes, byte_again}
 
 -- ---- names
-
-pub not_false : (b : Bool) → not b ≡ true → b ≡ false
-not_false true e = absurd cc
-not_false false e = refl
 
 pub name_size : (name : List ℕ) → is_name name ≡ true → (1 ≤ length name) × (length name ≤ 32)
 name_size [] e = absurd cc
 name_size (c ∷ cs) e =
-    let rest = both (is_letter c) _ e in
-    (omega arith, leb-true _ _ (both _ (leb (length (c ∷ cs)) 32) rest.1).1)
+    let rest = and_parts (is_letter c) _ e in
+    (omega arith, leb-true _ _ (and_parts _ (leb (length (c ∷ cs)) 32) rest.1).1)
 
 abbrev is_size : ℕ → Bool
 is_size n = leb 1 n && leb n 32
@@ -52,11 +48,11 @@ name_takes is_taken file at x fits e =
     let a = bind_ok (bytes_at file s.byte s.after) (λ name. in_range (is_new is_taken name.0) s.after name) x s.rest in
     let t = bytes_takes file s.byte s.after a.0 a.1 in
     let g = in_range_takes (is_new is_taken a.0.0) s.after a.0 x a.2 in
-    let tests = both (is_name a.0.0) (not (is_taken a.0.0)) g.0 in
+    let tests = and_parts (is_name a.0.0) (not (is_taken a.0.0)) g.0 in
     subst (TakenName is_taken file at) g.1 (record {
       there = subst (λ (n : ℕ). Stands file at (n ∷ a.0.0) a.0.1) (sym t.1) (Stands-then file at (s.byte ∷ []) s.after a.0.0 a.0.1 s.there t.0);
       name = tests.0;
-      once = not_false (is_taken a.0.0) tests.1;
+      once = not-true (is_taken a.0.0) tests.1;
     })
 
 pub name_again : (is_taken : List ℕ → Bool) (file : List ℕ) (at : ℕ) (name : List ℕ) (after : ℕ) → is_name name ≡ true → is_taken name ≡ false → Stands file at (length name ∷ name) after → name_at is_taken file at ≡ Ok (name, after)
@@ -123,7 +119,7 @@ form_takes m file at x fits e =
     (record { there = Stands-then file at (kind_code k.0.0 ∷ []) k.0.1 (b.byte ∷ []) b.after first b.there; form = b.passes })
 
 pub form_bits : (m : ℕ) (kind : Kind) (bits : ℕ) → is_form m kind bits ≡ true → bits ≤ 64
-form_bits m Int bits e = leb-true _ _ (both (leb bits 64) _ (both (leb m bits) _ e).1).0
+form_bits m Int bits e = leb-true _ _ (and_parts (leb bits 64) _ (and_parts (leb m bits) _ e).1).0
 form_bits m Bit bits e = let one : bits ≡ 1 = eqb-true _ _ e in omega (arith, one)
 
 pub form_again : (m : ℕ) (file : List ℕ) (at : ℕ) (kind : Kind) (bits after : ℕ) → is_form m kind bits ≡ true → Stands file at (kind_code kind ∷ bits ∷ []) after → form_at m file at ≡ Ok ((kind, bits), after)

@@ -6,7 +6,7 @@ use Rattle.std.specs.Int.{Width, w8, w16, w32, to_le_bytes, cast_signed, cast_un
 use mir.Val.{bits}
 use Rattle.std.specs.Int.RustNames.{FitsSigned}
 use Rattle.std.proofs.Math.Nat.{mod-eq_of_lt}
-use Rattle.std.proofs.lemmas.Bool.{leb-true, le-leb}
+use Rattle.std.proofs.lemmas.Bool.{leb-true, le-leb, and_parts}
 use Rattle.std.proofs.lemmas.Int.{of_z-to_z, to_z-of_z}
 use Rattle.std.proofs.Math.Facts.{sfits_to_z, Fits-of_z}
 use Rattle.rx_laws.specs.Decode.{plaintexts}
@@ -24,9 +24,9 @@ use Rattle.rx_codec.specs.declared.fault.CodecFault.{CodecFault}
 use Rattle.rx_codec.specs.Reading.{◌>>=◌, bytes_at, number_at, signed_at, signed_bytes, many_at, list_at}
 use Rattle.rx_codec.specs.NamedFields.{kind_code, named_bytes, name_at, form_at}
 use Rattle.rx_codec.specs.NetFile.{input_bytes, term_bytes, job_bytes, output_bytes, input_at, term_at, job_at, output_at}
-use Rattle.rx_codec.proofs.Fields.{IsBytes, IsBytes-within, Stands, Stands-then, Stands-first, Stands-second, bind_ok, ok_is, both, bytes_takes, bytes_again, IsWide, wide8, wide16, wide32, number_takes, number_again, byte_then, byte_takes, byte_again}
+use Rattle.rx_codec.proofs.Fields.{IsBytes, IsBytes-within, Stands, Stands-then, Stands-first, Stands-second, bind_ok, ok_is, bytes_takes, bytes_again, IsWide, wide8, wide16, wide32, number_takes, number_again, byte_then, byte_takes, byte_again}
 use Rattle.rx_codec.proofs.NamesAndForms.{name_takes, name_again, form_takes, form_again}
-use Rattle.rx_codec.proofs.Manys.{Tells, many_takes, many_again, list_takes, list_again}
+use Rattle.rx_codec.proofs.Manys.{Tells, many_takes, many_again, IsFourBytes, four_bytes_tells, list_takes, list_again}
 
 -- ---- numbers of either sign
 
@@ -42,17 +42,6 @@ signed_again : (w : Width) (wide : IsWide w (2 ^ bits w)) (file : List ℕ) (at 
 signed_again w wide file at z after fits there =
     let below = Fits-of_z fits in
     rw (number_again w (2 ^ bits w) wide file at (cast_unsigned w z) after there below.fits, to_z-of_z w z fits) refl
-
--- ---- cells
-
-abbrev pub IsCell : List ℕ → ℕ → Type 0
-IsCell before cell = cell < 2 ^ 32
-
-pub cell_tells : Tells (λ before. number_at w32) (to_le_bytes w32) IsCell
-cell_tells = record {
-  takes = λ before file at x fits e. number_takes w32 (2 ^ 32) wide32 file at x fits e;
-  again = λ before file at x after fits there. number_again w32 (2 ^ 32) wide32 file at x after there fits;
-}
 
 -- ---- terms
 
@@ -216,7 +205,7 @@ input_takes space before file at x fits e =
     let t1 = form_takes space file a.0.1 b.0 fits b.1 in
     let d = byte_takes (is_degree space form.0) file b.0.1 (input_after_degree space file name form) x fits b.2 in
     let n = byte_takes (is_noise space) file d.after (input_of name form d.byte) x fits d.rest in
-    let noise = both (leb 1 n.byte) (leb n.byte (noise_limit space)) n.passes in
+    let noise = and_parts (leb 1 n.byte) (leb n.byte (noise_limit space)) n.passes in
     let input : NetInput = record { name = name; kind = form.0; bits = form.1; degree = d.byte; noise = n.byte } in
     let value : NetInput × ℕ = (input, n.after) in
     let named = Stands-then file at (length name ∷ name) a.0.1 (kind_code form.0 ∷ form.1 ∷ []) b.0.1 t0.there t1.there in
@@ -271,7 +260,7 @@ pub record OutputFits (space : ℕ) (before : List NetOutput) (o : NetOutput) : 
   pub once : has_output before o.name ≡ false
   pub form : is_form space o.kind o.bits ≡ true
   pub count : length o.cells ≡ block_count o.kind space o.bits
-  pub cells : InTurn IsCell [] o.cells
+  pub cells : InTurn IsFourBytes [] o.cells
 
 abbrev output_of : List ℕ → Kind × ℕ → List ℕ × ℕ → Result (NetOutput × ℕ) CodecFault
 output_of name form cells = Ok (record { name = name; kind = form.0; bits = form.1; cells = cells.0 }, cells.1)
@@ -296,7 +285,7 @@ output_takes space before file at x fits e =
     let t1 = form_takes space file a.0.1 b.0 fits b.1 in
     let count = block_count form.0 space form.1 in
     let c = bind_ok (many_at (λ before. number_at w32) count [] file b.0.1) (output_of name form) x b.2 in
-    let t2 = many_takes (λ before. number_at w32) (to_le_bytes w32) IsCell cell_tells count [] file b.0.1 c.0 fits t1.there.within c.1 in
+    let t2 = many_takes (λ before. number_at w32) (to_le_bytes w32) IsFourBytes four_bytes_tells count [] file b.0.1 c.0 fits t1.there.within c.1 in
     let cells-are : t2.more ≡ c.0.0 = sym t2.value in
     let cells : Stands file b.0.1 (flat_map (to_le_bytes w32) c.0.0) c.0.1 = subst (λ (cs : List ℕ). Stands file b.0.1 (flat_map (to_le_bytes w32) cs) c.0.1) cells-are t2.there in
     let output : NetOutput = record { name = name; kind = form.0; bits = form.1; cells = c.0.0 } in
@@ -309,7 +298,7 @@ output_takes space before file at x fits e =
         once = t0.once;
         form = t1.form;
         count = subst (λ (cs : List ℕ). length cs ≡ count) cells-are t2.count-is;
-        cells = subst (InTurn IsCell []) cells-are t2.fits;
+        cells = subst (InTurn IsFourBytes []) cells-are t2.fits;
       },
     )
 
@@ -324,7 +313,7 @@ output_again space before file at o after h there =
     let s2 = Stands-second file at (head ++ code) cells after there in
     let p1 = Stands-first file at head code a2 named in
     let p2 = Stands-second file at head code a2 named in
-    let read = many_again (λ before. number_at w32) (to_le_bytes w32) IsCell cell_tells o.cells [] file a2 after h.cells s2 in
+    let read = many_again (λ before. number_at w32) (to_le_bytes w32) IsFourBytes four_bytes_tells o.cells [] file a2 after h.cells s2 in
     output_at-is space before file at
     ∙ ap (λ (r : Result (List ℕ × ℕ) CodecFault). r >>= output_after_name space file) (name_again (has_output before) file at o.name a1 h.name h.once p1)
     ∙ ap (λ (r : Result ((Kind × ℕ) × ℕ) CodecFault). r >>= output_after_form space file o.name) (form_again space file a1 o.kind o.bits a2 h.form p2)

@@ -4,10 +4,11 @@ use Rattle.std.specs.Prelude.{IfOk, IsTrue, codes}
 use Rattle.std.specs.List.{AllByRecursion}
 use Rattle.std.specs.Int.{w8, w16, w32}
 use Rattle.std.specs.Int.RustNames.{FitsSigned}
-use Rattle.std.proofs.lemmas.Bool.{leb-true, ltb-true, eqb-true}
+use Rattle.std.proofs.lemmas.Bool.{leb-true, ltb-true, eqb-true, and_parts, not-true}
 use Rattle.rx_text.specs.Names.{is_name}
 use Rattle.rx_params.specs.Derived.{noise_limit}
 use Rattle.rx_params.specs.Kinds.{greatest, block_count, is_form}
+use Rattle.rx_params.proofs.Refusals.{two_or_three, two_or_three-is}
 use Rattle.rx_net.specs.declared.term.Term.{Term}
 use Rattle.rx_net.specs.declared.net.Job.{Job}
 use Rattle.rx_net.specs.declared.net.NetInput.{NetInput}
@@ -23,11 +24,10 @@ use Rattle.rx_net.specs.Laws.{NetLaws}
 use Rattle.rx_codec.specs.declared.fault.CodecFault.{CodecFault}
 use Rattle.rx_codec.specs.Reading.{◌>>=◌, Gives, number_at, in_range, list_bytes, list_at, magic_at, ends_at}
 use Rattle.rx_codec.specs.NetFile.{input_bytes, job_bytes, output_bytes, lists_bytes, net_bytes, NetFile, input_at, job_at, output_at, space_at, lists_at, spelled_from, legal_or, net_from}
-use Rattle.rx_codec.proofs.Fields.{IsBytes, Stands, Stands-then, Stands-first, Stands-second, Stands-whole, whole-Stands, bind_ok, ok_is, both, wide8, wide16, wide32, number_takes, number_again, in_range_takes, magic_takes, magic_again, ends_takes, ends_again}
-use Rattle.rx_codec.proofs.Accepted.{bits_true, two_or_three}
-use Rattle.rx_codec.proofs.NamesAndForms.{not_false, name_size, form_bits}
-use Rattle.rx_codec.proofs.Manys.{list_takes, list_again}
-use Rattle.rx_codec.proofs.NetFields.{byte_bytes, IsSpace, IsCell, IsTerm, IsSpelledJob, InputFits, OutputFits, input_tells, job_tells, output_tells}
+use Rattle.rx_codec.proofs.Fields.{IsBytes, Stands, Stands-then, Stands-first, Stands-second, Stands-whole, whole-Stands, bind_ok, ok_is, wide8, wide16, wide32, number_takes, number_again, in_range_takes, magic_takes, magic_again, ends_takes, ends_again}
+use Rattle.rx_codec.proofs.NamesAndForms.{name_size, form_bits}
+use Rattle.rx_codec.proofs.Manys.{each_of_turn, list_takes, list_again, IsFourBytes}
+use Rattle.rx_codec.proofs.NetFields.{byte_bytes, IsSpace, IsTerm, IsSpelledJob, InputFits, OutputFits, input_tells, job_tells, output_tells}
 
 -- ---- a space of 2 or 3
 
@@ -83,7 +83,7 @@ space_takes file at x fits e =
     let g = in_range_takes (is_space a.0.0) at a.0 x a.2 in
     let t = number_takes w8 (2 ^ 8) wide8 file at a.0 fits a.1 in
     subst (λ (y : ℕ × ℕ). Stands file at (y.0 ∷ []) y.1 × ((y.0 ≡ 2) ⊎ (y.0 ≡ 3))) g.1
-    (subst (λ (text : List ℕ). Stands file at text a.0.1) (byte_bytes a.0.0 t.1) t.0, two_or_three a.0.0 g.0)
+    (subst (λ (text : List ℕ). Stands file at text a.0.1) (byte_bytes a.0.0 t.1) t.0, two_or_three-is a.0.0 g.0)
 
 space_again : (file : List ℕ) (at space after : ℕ) → (space ≡ 2) ⊎ (space ≡ 3) → Stands file at (space ∷ []) after → space_at file at ≡ Ok (space, after)
 unfolding space_at
@@ -92,7 +92,7 @@ space_again file at space after h there =
     let value : ℕ × ℕ = (space, after) in
     ap (λ (r : Result (ℕ × ℕ) CodecFault). r >>= λ n. in_range (is_space n.0) at n)
     (number_again w8 (2 ^ 8) wide8 file at space after (subst (λ (text : List ℕ). Stands file at text after) (sym (byte_bytes space small)) there) small)
-    ∙ ap (λ (b : Bool). in_range b at value) (bits_true space h)
+    ∙ ap (λ (b : Bool). in_range b at value) (two_or_three space h)
 
 spelled_takes : (file : List ℕ) (n : Net) → IsBytes file → spelled_from file ≡ Ok n → TakenNet file n
 unfolding spelled_from
@@ -113,20 +113,16 @@ spelled_takes file n fits e =
       outputs = subst (λ (s : ℕ). InTurn (OutputFits s) [] net.0.0.outputs) (sym t2.space-is) t2.outputs;
     })
 
-names_of_inputs : (space : ℕ) (before is : List NetInput) → InTurn (InputFits space) before is → AllByRecursion (λ (i : NetInput). IsTrue (is_name i.name)) is
-names_of_inputs space before [] h = tt
-names_of_inputs space before (i ∷ is) h = (h.0.name, names_of_inputs space (before ++ i ∷ []) is h.1)
-
-names_of_outputs : (space : ℕ) (before os : List NetOutput) → InTurn (OutputFits space) before os → AllByRecursion (λ (o : NetOutput). IsTrue (is_name o.name)) os
-names_of_outputs space before [] h = tt
-names_of_outputs space before (o ∷ os) h = (h.0.name, names_of_outputs space (before ++ o ∷ []) os h.1)
-
 -- a legal net that is read is one that the file spells
 pub spelled_legal : (file : List ℕ) (n : Net) → IsBytes file → spelled_from file ≡ Ok n → Legal n → NetFile file n
 spelled_legal file n fits e legal =
     let t = spelled_takes file n fits e in
     record {
-      fits = record { legal = legal; input_names = names_of_inputs n.space [] n.inputs t.inputs; output_names = names_of_outputs n.space [] n.outputs t.outputs };
+      fits = record {
+        legal = legal;
+        input_names = each_of_turn (InputFits n.space) (λ (i : NetInput). IsTrue (is_name i.name)) (λ before i h. h.name) [] n.inputs t.inputs;
+        output_names = each_of_turn (OutputFits n.space) (λ (o : NetOutput). IsTrue (is_name o.name)) (λ before o h. h.name) [] n.outputs t.outputs;
+      };
       spelled = t.spelled;
     }
 
@@ -147,13 +143,13 @@ net_spelled laws file n fits e =
 inputs_fit : (space : ℕ) (before is : List NetInput) → InTurn (λ before i. IsTrue (is_input space before i)) before is → AllByRecursion (λ (i : NetInput). IsTrue (is_name i.name)) is → InTurn (InputFits space) before is
 inputs_fit space before [] h names = tt
 inputs_fit space before (i ∷ is) h names =
-    let a = both (is_form space i.kind i.bits) (has_input_tags space i && not (names_input i.name before)) h.0 in
-    let b = both (has_input_tags space i) (not (names_input i.name before)) a.1 in
-    let d = both (leb i.degree (greatest i.kind space)) (leb 1 i.noise && leb i.noise (noise_limit space)) b.0 in
-    let noise = both (leb 1 i.noise) (leb i.noise (noise_limit space)) d.1 in (
+    let a = and_parts (is_form space i.kind i.bits) (has_input_tags space i && not (names_input i.name before)) h.0 in
+    let b = and_parts (has_input_tags space i) (not (names_input i.name before)) a.1 in
+    let d = and_parts (leb i.degree (greatest i.kind space)) (leb 1 i.noise && leb i.noise (noise_limit space)) b.0 in
+    let noise = and_parts (leb 1 i.noise) (leb i.noise (noise_limit space)) d.1 in (
       record {
         name = names.0;
-        once = not_false (names_input i.name before) b.1;
+        once = not-true (names_input i.name before) b.1;
         form = a.0;
         degree = leb-true _ _ d.0;
         noise_low = leb-true _ _ noise.0;
@@ -185,11 +181,11 @@ jobs_fit space inputs before (j ∷ js) few h narrow = (
   jobs_fit space inputs (before ++ j ∷ []) js few.1 h.1 narrow.1,
 )
 
-cells_fit : (count most : ℕ) (degrees : ℕ → ℕ) → count < 2 ^ 32 → (before cells : List ℕ) → are_cells count degrees most cells ≡ true → InTurn IsCell before cells
+cells_fit : (count most : ℕ) (degrees : ℕ → ℕ) → count < 2 ^ 32 → (before cells : List ℕ) → are_cells count degrees most cells ≡ true → InTurn IsFourBytes before cells
 cells_fit count most degrees few before [] h = tt
 cells_fit count most degrees few before (c ∷ cs) h =
-    let a = both (ltb c count && leb (degrees c) most) (are_cells count degrees most cs) h in
-    let b = both (ltb c count) (leb (degrees c) most) a.0 in
+    let a = and_parts (ltb c count && leb (degrees c) most) (are_cells count degrees most cs) h in
+    let b = and_parts (ltb c count) (leb (degrees c) most) a.0 in
     let below : c < count = ltb-true _ _ b.0 in
     (omega (arith, below, few), cells_fit count most degrees few (before ++ c ∷ []) cs a.1)
 
@@ -197,12 +193,12 @@ outputs_fit : (space count : ℕ) (degrees : ℕ → ℕ) → count < 2 ^ 32 →
 outputs_fit space count degrees few before [] h names = tt
 outputs_fit space count degrees few before (o ∷ os) h names =
     let cells = are_cells count degrees (greatest o.kind space) o.cells in
-    let a = both (is_form space o.kind o.bits) (eqb (length o.cells) (block_count o.kind space o.bits) && (not (names_output o.name before) && cells)) h.0 in
-    let b = both (eqb (length o.cells) (block_count o.kind space o.bits)) (not (names_output o.name before) && cells) a.1 in
-    let d = both (not (names_output o.name before)) cells b.1 in (
+    let a = and_parts (is_form space o.kind o.bits) (eqb (length o.cells) (block_count o.kind space o.bits) && (not (names_output o.name before) && cells)) h.0 in
+    let b = and_parts (eqb (length o.cells) (block_count o.kind space o.bits)) (not (names_output o.name before) && cells) a.1 in
+    let d = and_parts (not (names_output o.name before)) cells b.1 in (
       record {
         name = names.0;
-        once = not_false (names_output o.name before) d.0;
+        once = not-true (names_output o.name before) d.0;
         form = a.0;
         count = eqb-true _ _ b.0;
         cells = cells_fit count (greatest o.kind space) degrees few [] o.cells d.1;
@@ -271,7 +267,7 @@ net_only laws file result n exact h = subst (Gives (λ m. m) result) (net_again 
 pub inputs_short : (space : ℕ) (before is : List NetInput) → InTurn (λ before i. IsTrue (is_input space before i)) before is → AllByRecursion (λ (i : NetInput). IsTrue (is_name i.name)) is → AllByRecursion (λ (i : NetInput). (length i.name ≤ 32) × (i.bits ≤ 64)) is
 inputs_short space before [] h names = tt
 inputs_short space before (i ∷ is) h names =
-    let form = both (is_form space i.kind i.bits) (has_input_tags space i && not (names_input i.name before)) h.0 in
+    let form = and_parts (is_form space i.kind i.bits) (has_input_tags space i && not (names_input i.name before)) h.0 in
     (((name_size i.name names.0).1, form_bits space i.kind i.bits form.0), inputs_short space (before ++ i ∷ []) is h.1 names.1)
 
 pub jobs_short : (before js : List Job) → InTurn (λ before (j : Job). length j.terms ≤ 16) before js → AllByRecursion (λ (j : Job). length j.terms ≤ 16) js
@@ -281,5 +277,5 @@ jobs_short before (j ∷ js) h = (h.0, jobs_short (before ++ j ∷ []) js h.1)
 pub outputs_short : (space count : ℕ) (degrees : ℕ → ℕ) (before os : List NetOutput) → InTurn (λ before o. IsTrue (is_output space count degrees before o)) before os → AllByRecursion (λ (o : NetOutput). IsTrue (is_name o.name)) os → AllByRecursion (λ (o : NetOutput). (length o.name ≤ 32) × (o.bits ≤ 64)) os
 outputs_short space count degrees before [] h names = tt
 outputs_short space count degrees before (o ∷ os) h names =
-    let form = both (is_form space o.kind o.bits) (eqb (length o.cells) (block_count o.kind space o.bits) && (not (names_output o.name before) && are_cells count degrees (greatest o.kind space) o.cells)) h.0 in
+    let form = and_parts (is_form space o.kind o.bits) (eqb (length o.cells) (block_count o.kind space o.bits) && (not (names_output o.name before) && are_cells count degrees (greatest o.kind space) o.cells)) h.0 in
     (((name_size o.name names.0).1, form_bits space o.kind o.bits form.0), outputs_short space count degrees (before ++ o ∷ []) os h.1 names.1)

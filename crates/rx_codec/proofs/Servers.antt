@@ -17,11 +17,10 @@ use Rattle.rx_codec.specs.declared.fault.CodecFault.{CodecFault}
 use Rattle.rx_codec.specs.Reading.{◌>>=◌, Gives, magic_at, ends_at}
 use Rattle.rx_codec.specs.ParamsFields.{params_bytes, params_at}
 use Rattle.rx_codec.specs.WordFields.{word_bytes, words_in, words_at}
-use Rattle.rx_codec.specs.ServerFile.{ServerFile, IsServer, AreWords64, key_of, server_bytes, server_from}
-use Rattle.rx_codec.proofs.Accepted.{checked_accepts}
+use Rattle.rx_codec.specs.ServerFile.{ServerFile, AreWords64, key_of, server_bytes, server_from}
 use Rattle.rx_codec.proofs.Fields.{IsBytes, Stands, Stands-then, Stands-first, Stands-second, Stands-whole, whole-Stands, bind_ok, magic_takes, magic_again, ends_takes, ends_again}
 use Rattle.rx_codec.proofs.Params.{params_takes, params_again}
-use Rattle.rx_codec.proofs.Words.{words_takes, words_again}
+use Rattle.rx_codec.proofs.Words.{word_of, words_takes, words_again}
 
 -- ---- counts
 
@@ -31,9 +30,6 @@ switch_count-is p s words e sized =
     sized.count ∙ ap (λ (r : SwitchRows). r.big * r.levels * (r.small + 1)) e
 
 -- ---- the words of a part of the bytes
-
-abbrev word_of : List ℕ → ℕ → ℕ
-word_of bytes i = from_le_bytes w64 (slice_range bytes (8 * i) (8 * i + 8))
 
 eight : (i : ℕ) (bytes : List ℕ) → slice_range bytes (8 * i) (8 * i + 8) ≡ take 8 (drop (8 * i) bytes)
 eight i bytes = let size : 8 * i + 8 - 8 * i ≡ 8 = omega arith in ap (λ (n : ℕ). take n (drop (8 * i) bytes)) size
@@ -127,13 +123,10 @@ spelled_whole p all =
     let whole : take (boot_size p) all ++ drop (boot_size p) all ≡ all = take-append-drop (boot_size p) all in
     ap (λ (ws : List ℕ). codes "RXS1" ++ params_bytes p ++ word_bytes ws) (sym whole)
 
-record TakenServer (file : List ℕ) (k : ServerWords) : Type 0 where
-  fits : IsServer k
-  spelled : file ≡ server_bytes k
-
-server_takes : (file : List ℕ) (k : ServerWords) → IsBytes file → server_from file ≡ Ok k → TakenServer file k
+-- what is read is a server file
+pub server_spelled : (file : List ℕ) (k : ServerWords) → IsBytes file → server_from file ≡ Ok k → ServerFile file k
 unfolding server_from
-server_takes file k fits e =
+server_spelled file k fits e =
     let magic = bind_ok (magic_at (codes "RXS1") file) (λ after. params_at file after >>= λ params. words_at (key_words params.0) file params.1 >>= λ words. ends_at file words.1 (key_of params.0 words.0)) k e in
     let params = bind_ok (params_at file magic.0) (λ params. words_at (key_words params.0) file params.1 >>= λ words. ends_at file words.1 (key_of params.0 words.0)) k magic.2 in
     let p : Params = params.0.0 in
@@ -146,9 +139,9 @@ server_takes file k fits e =
     let e02 = Stands-then file 0 (codes "RXS1" ++ params_bytes p) params.0.1 (word_bytes words.0.0) words.0.1 e01 t2.0 in
     let all : List ℕ = words.0.0 in
     let split = all_words p in
-    subst (TakenServer file) end.1 (record {
+    subst (ServerFile file) end.1 (record {
       fits = record {
-        accepted = checked_accepts p t1.bounds t1.checks;
+        accepted = t1.accepted;
         boot_count = omega (arith, length-take (boot_size p) all, t2.1, split);
         switch_count = omega (arith, length-drop (boot_size p) all, t2.1, split);
         boot_words = words64-take (boot_size p) all t2.2;
@@ -157,10 +150,6 @@ server_takes file k fits e =
       spelled = whole-Stands file (codes "RXS1" ++ params_bytes p ++ word_bytes all) words.0.1 e02 end.0
           ∙ spelled_whole p all;
     })
-
--- what is read is a server file
-pub server_spelled : (file : List ℕ) (k : ServerWords) → IsBytes file → server_from file ≡ Ok k → ServerFile file k
-server_spelled file k fits e = let t = server_takes file k fits e in record { fits = t.fits; spelled = t.spelled }
 
 pub server_found : (file : List ℕ) (result : Result ServerWords CodecFault) → IsBytes file → Gives (λ k. k) result (server_from file) → IfOk result (λ k. ServerFile file k)
 server_found file (Ok k) fits exact = server_spelled file k fits exact

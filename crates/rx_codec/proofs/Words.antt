@@ -15,7 +15,7 @@ abbrev read_of : List ℕ → ℕ → Result (List ℕ × ℕ) CodecFault
 read_of words after = Ok (words, after)
 
 -- word i of the bytes
-abbrev word_of : List ℕ → ℕ → ℕ
+abbrev pub word_of : List ℕ → ℕ → ℕ
 word_of bytes i = from_le_bytes w64 (slice_range bytes (8 * i) (8 * i + 8))
 
 slice_bytes : (bytes : List ℕ) (i : ℕ) → IsBytes bytes → 8 * (i + 1) ≤ length bytes → to_le_bytes w64 (word_of bytes i) ≡ take 8 (drop (8 * i) bytes)

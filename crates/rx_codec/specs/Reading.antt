@@ -88,13 +88,13 @@ GivesAt view after (Ok value) read = read ≡ Ok (view value, after)
 GivesAt view after (Err fault) read = Fails fault read
 
 -- The same of a function that takes no memory: it answers what the reading gives.
-abbrev pub Answers : {A B : Type 0} → (A → B) → Result A CodecFault → Result B CodecFault → Type 0
-Answers view (Ok value) read = read ≡ Ok (view value)
-Answers view (Err fault) read = read ≡ Err fault
+abbrev pub GivesExactly : {A B : Type 0} → (A → B) → Result A CodecFault → Result B CodecFault → Type 0
+GivesExactly view (Ok value) read = read ≡ Ok (view value)
+GivesExactly view (Err fault) read = read ≡ Err fault
 
-abbrev pub AnswersAt : {A B : Type 0} → (A → B) → ℕ → Result A CodecFault → Result (B × ℕ) CodecFault → Type 0
-AnswersAt view after (Ok value) read = read ≡ Ok (view value, after)
-AnswersAt view after (Err fault) read = read ≡ Err fault
+abbrev pub GivesExactlyAt : {A B : Type 0} → (A → B) → ℕ → Result A CodecFault → Result (B × ℕ) CodecFault → Type 0
+GivesExactlyAt view after (Ok value) read = read ≡ Ok (view value, after)
+GivesExactlyAt view after (Err fault) read = read ≡ Err fault
 
 -- a file, and the place in it where a reader stands
 pub record Cursor : Type 0 where

@@ -1,8 +1,8 @@
-// The ciphertext file: named numbers under encryption.
+//! The ciphertext file: named numbers under encryption.
 ghost use Rattle.std.specs.Prelude.{◌≡◌, ◌≤◌, ◌++◌, length, IfOk, OnOk, Ok, []};
 ghost use Rattle.rx_params.specs.Acceptance.{Accepts};
 ghost use Rattle.rx_codec.specs.declared.cipher.Cipher.{Cipher};
-ghost use Rattle.rx_codec.specs.Reading.{AnswersAt, GivesAt, Gives};
+ghost use Rattle.rx_codec.specs.Reading.{GivesExactlyAt, GivesAt, Gives};
 ghost use Rattle.rx_codec.specs.CipherFile.{CipherFile, IsCipher, cipher_bytes, item_bytes, cipher_from, items_at, item_at, blocks_at, block_at, has_item as item_has_name};
 ghost use Rattle.rx_codec.specs.NamedFields.{name_at};
 
@@ -12,9 +12,9 @@ use crate::lists::{Blocks, Items};
 use crate::named_fields::{new_name, read_form, read_name_size, write_name_and_form};
 use crate::params_fields::read_params;
 use crate::reader::{Reader, in_range};
-use crate::shapes::{block_words, greatest_noise};
+use crate::shapes::block_words;
 use rx_block::{Block, Tags};
-use rx_params::{Kind, Name, Params};
+use rx_params::{Kind, Name, Params, noise_limit};
 use rx_torus::Words;
 use std::alloc::{AllocError, Global};
 
@@ -24,7 +24,9 @@ const MOST_ITEMS: u32 = 64;
 /// A named number under encryption.
 #[derive(Debug, Drop)]
 pub struct Item {
+    /// No other item of the file has it.
     pub name: Name,
+    /// An int or a bit.
     pub kind: Kind,
     /// The bits of the number: a multiple of the message bits, up to 64, or 1 for a bit.
     pub bits: u32,
@@ -35,7 +37,9 @@ pub struct Item {
 /// The numbers of a ciphertext file.
 #[derive(Debug, Drop)]
 pub struct Cipher {
+    /// The set of all items, which is accepted.
     pub params: Params,
+    /// At most 64.
     pub items: Items,
 }
 
@@ -108,7 +112,7 @@ fn read_item(
 
 #[tactic(auto, unfolding(crate::specs::NamedFields::name_at))]
 fn read_name(reader: &mut Reader, before: &[Item]) -> Result<Name, CodecFault>
-    ensures value { AnswersAt (λ name. name) reader.new.at result (name_at (λ name. item_has_name name before.now) reader.old.file reader.old.at) }
+    ensures value { GivesExactlyAt (λ name. name) reader.new.at result (name_at (λ name. item_has_name name before.now) reader.old.file reader.old.at) }
     ensures file { reader.new.file ≡ reader.old.file }
 {
     let size = read_name_size(reader)?;
@@ -159,7 +163,7 @@ fn read_block(
     in_range(degree <= kind.greatest(params.message_bits), at)?;
     let at = reader.at();
     let noise = reader.u8()?;
-    in_range((1..=greatest_noise(params)).contains(&noise), at)?;
+    in_range((1..=noise_limit(params.message_bits)).contains(&noise), at)?;
     let words = reader.words(alloc, block_words(params))?;
     Ok(Block {
         words: Words::from_vec(words),
@@ -168,7 +172,7 @@ fn read_block(
     })
 }
 
-/// The one file of a cipher.
+/// The one file of a cipher that keeps to the ranges of the format.
 pub fn encode_cipher(alloc: Global, value: &Cipher) -> Result<Vec<u8>, AllocError>
     requires { IsCipher value.now }
     ensures { IfOk result (λ bytes. bytes.items ≡ cipher_bytes value.now) }

@@ -1,5 +1,6 @@
-// The parts of a ciphertext file, each written behind the one before it: a head, and then for each item a
-// head and its blocks. A file of the right parts needs no `Cipher` and no words but those of one block.
+//! The parts of a ciphertext file, each written behind the one before it: a head, and then for each item a
+//! head and its blocks. A file of the right parts needs no `Cipher` and no words but those of one block.
+//! What a file has gained where memory runs out is not told.
 ghost use Rattle.std.specs.Prelude.{◌≡◌, ◌++◌, OnOk};
 ghost use Rattle.rx_codec.specs.CipherFile.{cipher_head, block_bytes};
 
@@ -9,7 +10,7 @@ use rx_block::Tags;
 use rx_params::{Name, Params};
 use std::alloc::AllocError;
 
-/// The bytes of the head of a file.
+/// The bytes of the head of a file: the magic, the set and the number of the items.
 pub const HEAD_SIZE: usize = 48;
 
 /// The bytes of an item of so many blocks, each of so many words, as far as a size can be counted: with
@@ -30,7 +31,7 @@ pub fn write_cipher_head(out: &mut Vec<u8>, params: &Params, items: u32) -> Resu
     Ok(())
 }
 
-/// Adds a block of lent words.
+/// Adds a block: its degree and its noise tag, a byte each, and the lent words, eight bytes each.
 pub fn write_block(out: &mut Vec<u8>, words: &[u64], tags: Tags) -> Result<(), AllocError>
     ensures { OnOk result (out.new.items ≡ out.old.items
         ++ block_bytes (record { words = words.now; degree = tags.degree; noise = tags.noise })) }

@@ -1,4 +1,4 @@
-// The client file.
+//! The client file.
 ghost use Rattle.std.specs.Prelude.{◌≡◌, IfOk, Ok};
 ghost use Rattle.rx_codec.specs.declared.client.Client.{Client};
 ghost use Rattle.rx_codec.specs.ClientFile.{ClientFile, IsClient, client_bytes, client_from};
@@ -12,7 +12,9 @@ use std::alloc::{AllocError, Global};
 /// What a client keeps: the set, and the seed of its secret keys.
 #[derive(Clone, Copy, Debug, PartialEq, Eq)]
 pub struct Client {
+    /// The set, which is accepted.
     pub params: Params,
+    /// What both secret keys and the noises of the server key are drawn from (`docs/FORMATS.md`, Random streams).
     pub seed: [u8; 32],
 }
 
@@ -37,7 +39,7 @@ fn read_client(bytes: &[u8]) -> Result<Client, CodecFault>
     Ok(Client { params, seed })
 }
 
-/// The one file of a client.
+/// The one file of a client, 76 bytes.
 pub fn encode_client(alloc: Global, value: &Client) -> Result<Vec<u8>, AllocError>
     requires { IsClient value.now }
     ensures { IfOk result (λ bytes. bytes.items ≡ client_bytes value.now) }

@@ -1,4 +1,4 @@
-// Why a binary file could not be read.
+//! Why a binary file could not be read.
 ghost use Rattle.std.specs.Prelude.{◌≡◌};
 ghost use Rattle.rx_codec.specs.declared.fault.CodecFault.TheVariants.{Memory};
 
@@ -7,7 +7,8 @@ use rx_params::Refused;
 use std::alloc::{AllocError, AllocFailed};
 use thiserror::Error;
 
-/// The first fault of a binary file, by the format that is wanted. Places are counted in bytes from 0.
+/// The first fault of a binary file, by the format that is wanted: field after field, then the end, then the net.
+/// Places are counted in bytes from 0.
 #[derive(Clone, Copy, Debug, PartialEq, Eq, Error)]
 pub enum CodecFault {
     /// The first four bytes are not those of the format.
@@ -22,12 +23,13 @@ pub enum CodecFault {
     /// The field that begins at this place has a value outside its range.
     #[error("the field at {at} is out of range")]
     Field { at: u64 },
-    /// The parameters are not accepted.
+    /// The parameters, all ten of which were read, are not accepted.
     #[error("parameters: {0}")]
     Params(Refused),
     /// The net that the file spells is not legal.
     #[error("net: {0}")]
     Net(NetFault),
+    /// Memory ran out. To decode a client file takes none.
     #[error("out of memory")]
     Memory,
 }

@@ -1,4 +1,4 @@
-// The law of the formats.
+//! The law of the formats.
 ghost use Rattle.rx_codec.specs.Laws.{FileLaws};
 
 use rx_net::net_laws;

@@ -1,4 +1,5 @@
-//! The binary formats: client, server and ciphertext files, in both directions.
+//! The binary formats: client, server, ciphertext and net files, in both directions. Source: `docs/FORMATS.md`, Binary
+//! files.
 #![tactic(auto)]
 
 mod cipher;

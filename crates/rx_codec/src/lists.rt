@@ -1,4 +1,4 @@
-// Lists of blocks and of items, which contracts see as lists.
+//! Lists of blocks and of items, which contracts see as lists.
 ghost use Rattle.std.specs.Prelude.{◌≡◌};
 
 use crate::Item;

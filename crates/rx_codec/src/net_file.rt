@@ -1,4 +1,4 @@
-// The net file.
+//! The net file.
 ghost use Rattle.std.specs.Prelude.{◌≡◌, IfOk, Ok};
 ghost use Rattle.rx_net.specs.declared.net.Net.{Net};
 ghost use Rattle.rx_net.specs.Named.{IsNet};
@@ -33,7 +33,7 @@ fn read_net(alloc: Global, bytes: &[u8]) -> Result<Net, CodecFault>
     }
 }
 
-/// The one file of a net.
+/// The one file of a legal net whose names are names.
 pub fn encode_net(alloc: Global, value: &Net) -> Result<Vec<u8>, AllocError>
     requires { IsNet value.now }
     ensures { IfOk result (λ bytes. NetFile bytes.items value.now) }

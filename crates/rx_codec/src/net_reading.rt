@@ -1,8 +1,8 @@
-// Reading the fields of a net file, legal or not.
+//! Reading the fields of a net file, legal or not.
 ghost use Rattle.std.specs.Prelude.{◌≡◌, ◌⊎◌, ◌^◌, [], IfOk};
 ghost use Rattle.std.specs.Int.{w8, w16, w32};
 ghost use Rattle.rx_net.specs.Legal.{names_input as has_input, names_output as has_output};
-ghost use Rattle.rx_codec.specs.Reading.{AnswersAt, GivesAt, Gives, number_at, many_at, list_at};
+ghost use Rattle.rx_codec.specs.Reading.{GivesExactlyAt, GivesAt, Gives, number_at, many_at, list_at};
 ghost use Rattle.rx_codec.specs.NamedFields.{name_at};
 ghost use Rattle.rx_codec.specs.NetFile.{input_at, term_at, job_at, output_at, space_at, lists_at, spelled_from};
 
@@ -12,13 +12,15 @@ use crate::reader::{Reader, in_range};
 use rx_net::{
     Cells, Job, Jobs, Net, NetInput, NetInputs, NetOutput, NetOutputs, Table, Term, Terms,
 };
-use rx_params::Name;
+use rx_params::{Name, noise_limit, plaintexts};
 use std::alloc::Global;
 
 /// The most inputs of a net, and the most outputs.
 const MOST_NUMBERS: u16 = 64;
 
+/// The most jobs of a net.
 const MOST_JOBS: u32 = 65_536;
+
 /// The most terms of a job.
 const MOST_TERMS: u8 = 16;
 
@@ -36,7 +38,7 @@ pub fn read_spelled(alloc: Global, bytes: &[u8]) -> Result<Net, CodecFault>
 
 #[tactic(auto, unfolding(crate::specs::NetFile::space_at))]
 fn read_space(reader: &mut Reader) -> Result<u32, CodecFault>
-    ensures value { AnswersAt (λ space. space) reader.new.at result (space_at reader.old.file reader.old.at) }
+    ensures value { GivesExactlyAt (λ space. space) reader.new.at result (space_at reader.old.file reader.old.at) }
     ensures space { IfOk result (λ space. (space ≡ 2) ⊎ (space ≡ 3)) }
     ensures file { reader.new.file ≡ reader.old.file }
 {
@@ -97,7 +99,7 @@ fn read_each_input(
 #[tactic(auto, unfolding(crate::specs::NetFile::input_at))]
 fn read_input(reader: &mut Reader, space: u32, before: &[NetInput]) -> Result<NetInput, CodecFault>
     requires { (space ≡ 2) ⊎ (space ≡ 3) }
-    ensures value { AnswersAt (λ input. input) reader.new.at result (input_at space before.now reader.old.file reader.old.at) }
+    ensures value { GivesExactlyAt (λ input. input) reader.new.at result (input_at space before.now reader.old.file reader.old.at) }
     ensures file { reader.new.file ≡ reader.old.file }
 {
     let name = read_input_name(reader, before)?;
@@ -107,7 +109,7 @@ fn read_input(reader: &mut Reader, space: u32, before: &[NetInput]) -> Result<Ne
     in_range(degree <= kind.greatest(space), at)?;
     let at = reader.at();
     let noise = reader.u8()?;
-    in_range((1..=2u8.pow(space) + 1).contains(&noise), at)?;
+    in_range((1..=noise_limit(space)).contains(&noise), at)?;
     Ok(NetInput {
         name,
         kind,
@@ -119,7 +121,7 @@ fn read_input(reader: &mut Reader, space: u32, before: &[NetInput]) -> Result<Ne
 
 #[tactic(auto, unfolding(crate::specs::NamedFields::name_at))]
 fn read_input_name(reader: &mut Reader, before: &[NetInput]) -> Result<Name, CodecFault>
-    ensures value { AnswersAt (λ name. name) reader.new.at result (name_at (λ name. has_input name before.now) reader.old.file reader.old.at) }
+    ensures value { GivesExactlyAt (λ name. name) reader.new.at result (name_at (λ name. has_input name before.now) reader.old.file reader.old.at) }
     ensures file { reader.new.file ≡ reader.old.file }
 {
     let size = read_name_size(reader)?;
@@ -172,7 +174,7 @@ fn read_job(alloc: Global, reader: &mut Reader, space: u32) -> Result<Job, Codec
 {
     let terms = read_terms(alloc, reader)?;
     let constant = reader.i16()?;
-    let table = Vec::from_slice(alloc, reader.bytes(4usize.pow(space))?)?;
+    let table = Vec::from_slice(alloc, reader.bytes(usize::from(plaintexts(space)))?)?;
     let declared = reader.u8()?;
     Ok(Job {
         terms,
@@ -206,7 +208,7 @@ fn read_each_term(alloc: Global, reader: &mut Reader, count: u8) -> Result<Vec<T
 
 #[tactic(auto, unfolding(crate::specs::NetFile::term_at))]
 fn read_term(reader: &mut Reader) -> Result<Term, CodecFault>
-    ensures value { AnswersAt (λ term. term) reader.new.at result (term_at reader.old.file reader.old.at) }
+    ensures value { GivesExactlyAt (λ term. term) reader.new.at result (term_at reader.old.file reader.old.at) }
     ensures file { reader.new.file ≡ reader.old.file }
 {
     let cell = reader.u32()?;
@@ -267,7 +269,7 @@ fn read_output(
 
 #[tactic(auto, unfolding(crate::specs::NamedFields::name_at))]
 fn read_output_name(reader: &mut Reader, before: &[NetOutput]) -> Result<Name, CodecFault>
-    ensures value { AnswersAt (λ name. name) reader.new.at result (name_at (λ name. has_output name before.now) reader.old.file reader.old.at) }
+    ensures value { GivesExactlyAt (λ name. name) reader.new.at result (name_at (λ name. has_output name before.now) reader.old.file reader.old.at) }
     ensures file { reader.new.file ≡ reader.old.file }
 {
     let size = read_name_size(reader)?;

@@ -1,4 +1,4 @@
-// Writing the fields of a net file, each behind the one before it.
+//! Writing the fields of a net file, each behind the one before it.
 ghost use Rattle.std.specs.Prelude.{◌≡◌, ◌≤◌, ◌<◌, ◌^◌, ◌∷◌, ◌++◌, length, OnOk};
 ghost use Rattle.std.specs.Int.{w16, w32};
 ghost use Rattle.std.specs.List.{flat_map, AllByRecursion};

@@ -1,6 +1,6 @@
-// The ten parameter fields of a file.
+//! The ten parameter fields of a file.
 ghost use Rattle.std.specs.Prelude.{◌≡◌, ◌++◌, OnOk, IfOk};
-ghost use Rattle.rx_codec.specs.Reading.{AnswersAt};
+ghost use Rattle.rx_codec.specs.Reading.{GivesExactlyAt};
 ghost use Rattle.rx_params.specs.Acceptance.{Accepts};
 ghost use Rattle.rx_codec.specs.ParamsFields.{params_bytes, fields_at, params_at};
 
@@ -12,7 +12,7 @@ use std::alloc::AllocError;
 
 #[tactic(auto, unfolding(crate::specs::ParamsFields::fields_at))]
 fn read_fields(reader: &mut Reader) -> Result<Params, CodecFault>
-    ensures value { AnswersAt (λ p. p) reader.new.at result (fields_at reader.old.file reader.old.at) }
+    ensures value { GivesExactlyAt (λ p. p) reader.new.at result (fields_at reader.old.file reader.old.at) }
     ensures file { reader.new.file ≡ reader.old.file }
 {
     Ok(Params {
@@ -32,7 +32,7 @@ fn read_fields(reader: &mut Reader) -> Result<Params, CodecFault>
 /// The set that stands where the reader is, once all ten fields were read.
 #[tactic(auto, unfolding(crate::specs::ParamsFields::params_at))]
 pub fn read_params(reader: &mut Reader) -> Result<Params, CodecFault>
-    ensures value { AnswersAt (λ p. p) reader.new.at result (params_at reader.old.file reader.old.at) }
+    ensures value { GivesExactlyAt (λ p. p) reader.new.at result (params_at reader.old.file reader.old.at) }
     ensures file { reader.new.file ≡ reader.old.file }
     ensures accepted { IfOk result Accepts }
 {
@@ -43,7 +43,7 @@ pub fn read_params(reader: &mut Reader) -> Result<Params, CodecFault>
     }
 }
 
-/// Adds the ten fields of a set.
+/// Adds the ten fields of a set, four bytes each.
 pub fn write_params(out: &mut Vec<u8>, p: &Params) -> Result<(), AllocError>
     ensures { OnOk result (out.new.items ≡ out.old.items ++ params_bytes p.now) }
 {

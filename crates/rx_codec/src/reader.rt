@@ -1,14 +1,15 @@
-// Reading a file field after field. Each format is read by one `Reader`, which keeps the place and answers the faults.
+//! Reading a file field after field. Each format is read by one `Reader`, which keeps the place and answers the faults.
 ghost use Rattle.std.specs.Prelude.{◌≡◌, ◌*◌, ◌<◌, ◌^◌, length, IfOk};
 ghost use Rattle.std.specs.Int.{w8, w16, w32};
-ghost use Rattle.rx_codec.specs.Reading.{Answers, AnswersAt, GivesAt, bytes_at, number_at, signed_at, count_at, in_range as field_in_range, magic_at, ends_at};
+ghost use Rattle.rx_codec.specs.Reading.{GivesExactly, GivesExactlyAt, GivesAt, bytes_at, number_at, signed_at, count_at, in_range as field_in_range, magic_at, ends_at};
 ghost use Rattle.rx_codec.specs.WordFields.{words_at, words_in};
 
 use crate::CodecFault;
 use std::alloc::{AllocError, Global};
 use std::marker::Model;
 
-/// A file, and the place in it where the next field begins.
+/// A file, and the place in it where the next field begins, in bytes from 0. A field that the file does not hold to its
+/// end is `Short`, and one with a value outside its range `Field`. After a fault the place is not told.
 #[derive(Drop)]
 pub struct Reader<'a> {
     file: &'a [u8],
@@ -27,9 +28,9 @@ impl<'a> Model for Reader<'a> {
 }
 
 impl<'a> Reader<'a> {
-    /// A reader of a file, past the four bytes that tell its format.
+    /// A reader of a file, past the four bytes that tell its format, or `Magic`.
     pub fn after_magic(file: &'a [u8], magic: &[u8]) -> Result<Reader<'a>, CodecFault>
-        ensures value { Answers (λ reader. reader.at) result (magic_at magic.now file.now) }
+        ensures value { GivesExactly (λ reader. reader.at) result (magic_at magic.now file.now) }
         ensures file { IfOk result (λ reader. reader.file ≡ file.now) }
     {
         let mut reader = Reader { file, at: 0 };
@@ -49,7 +50,7 @@ impl<'a> Reader<'a> {
     /// A field of so many bytes.
     pub fn bytes(&mut self, count: usize) -> Result<&'a [u8], CodecFault>
         requires { count < 2 ^ 32 }
-        ensures value { AnswersAt (λ bytes. bytes.now) self.new.at result (bytes_at self.old.file count self.old.at) }
+        ensures value { GivesExactlyAt (λ bytes. bytes.now) self.new.at result (bytes_at self.old.file count self.old.at) }
         ensures file { self.new.file ≡ self.old.file }
     {
         let end = self.at + count;
@@ -66,7 +67,7 @@ impl<'a> Reader<'a> {
 
     /// A number of one byte.
     pub fn u8(&mut self) -> Result<u8, CodecFault>
-        ensures value { AnswersAt (λ n. n) self.new.at result (number_at w8 self.old.file self.old.at) }
+        ensures value { GivesExactlyAt (λ n. n) self.new.at result (number_at w8 self.old.file self.old.at) }
         ensures file { self.new.file ≡ self.old.file }
     {
         let bytes = self.bytes(1)?;
@@ -75,7 +76,7 @@ impl<'a> Reader<'a> {
 
     /// A number of two bytes.
     pub fn u16(&mut self) -> Result<u16, CodecFault>
-        ensures value { AnswersAt (λ n. n) self.new.at result (number_at w16 self.old.file self.old.at) }
+        ensures value { GivesExactlyAt (λ n. n) self.new.at result (number_at w16 self.old.file self.old.at) }
         ensures file { self.new.file ≡ self.old.file }
     {
         let bytes = self.bytes(2)?;
@@ -84,7 +85,7 @@ impl<'a> Reader<'a> {
 
     /// A number of one byte and of either sign.
     pub fn i8(&mut self) -> Result<i8, CodecFault>
-        ensures value { AnswersAt (λ n. n) self.new.at result (signed_at w8 self.old.file self.old.at) }
+        ensures value { GivesExactlyAt (λ n. n) self.new.at result (signed_at w8 self.old.file self.old.at) }
         ensures file { self.new.file ≡ self.old.file }
     {
         Ok(self.u8()?.cast_signed())
@@ -92,7 +93,7 @@ impl<'a> Reader<'a> {
 
     /// A number of two bytes and of either sign.
     pub fn i16(&mut self) -> Result<i16, CodecFault>
-        ensures value { AnswersAt (λ n. n) self.new.at result (signed_at w16 self.old.file self.old.at) }
+        ensures value { GivesExactlyAt (λ n. n) self.new.at result (signed_at w16 self.old.file self.old.at) }
         ensures file { self.new.file ≡ self.old.file }
     {
         Ok(self.u16()?.cast_signed())
@@ -100,7 +101,7 @@ impl<'a> Reader<'a> {
 
     /// A number of four bytes.
     pub fn u32(&mut self) -> Result<u32, CodecFault>
-        ensures value { AnswersAt (λ n. n) self.new.at result (number_at w32 self.old.file self.old.at) }
+        ensures value { GivesExactlyAt (λ n. n) self.new.at result (number_at w32 self.old.file self.old.at) }
         ensures file { self.new.file ≡ self.old.file }
     {
         let bytes = self.bytes(4)?;
@@ -110,7 +111,7 @@ impl<'a> Reader<'a> {
     /// A number of one byte that is at most `most`.
     #[tactic(auto, unfolding(crate::specs::Reading::count_at))]
     pub fn u8_at_most(&mut self, most: u8) -> Result<u8, CodecFault>
-        ensures value { AnswersAt (λ n. n) self.new.at result (count_at w8 most self.old.file self.old.at) }
+        ensures value { GivesExactlyAt (λ n. n) self.new.at result (count_at w8 most self.old.file self.old.at) }
         ensures file { self.new.file ≡ self.old.file }
     {
         let at = self.at();
@@ -122,7 +123,7 @@ impl<'a> Reader<'a> {
     /// A number of two bytes that is at most `most`.
     #[tactic(auto, unfolding(crate::specs::Reading::count_at))]
     pub fn u16_at_most(&mut self, most: u16) -> Result<u16, CodecFault>
-        ensures value { AnswersAt (λ n. n) self.new.at result (count_at w16 most self.old.file self.old.at) }
+        ensures value { GivesExactlyAt (λ n. n) self.new.at result (count_at w16 most self.old.file self.old.at) }
         ensures file { self.new.file ≡ self.old.file }
     {
         let at = self.at();
@@ -134,7 +135,7 @@ impl<'a> Reader<'a> {
     /// A number of four bytes that is at most `most`.
     #[tactic(auto, unfolding(crate::specs::Reading::count_at))]
     pub fn u32_at_most(&mut self, most: u32) -> Result<u32, CodecFault>
-        ensures value { AnswersAt (λ n. n) self.new.at result (count_at w32 most self.old.file self.old.at) }
+        ensures value { GivesExactlyAt (λ n. n) self.new.at result (count_at w32 most self.old.file self.old.at) }
         ensures file { self.new.file ≡ self.old.file }
     {
         let at = self.at();
@@ -154,7 +155,7 @@ impl<'a> Reader<'a> {
         Ok(words_of(alloc, count, bytes)?)
     }
 
-    /// The file ends where the reader stands.
+    /// The file ends where the reader stands, or is `Long`.
     pub fn end(&self) -> Result<(), CodecFault>
         ensures { result ≡ ends_at self.now.file self.now.at tt }
     {
@@ -178,7 +179,7 @@ pub fn in_range(passes: bool, at: u64) -> Result<(), CodecFault>
     }
 }
 
-/// The words that the bytes are.
+/// The words that the bytes are, eight bytes each, the least first.
 pub fn words_of(alloc: Global, count: usize, bytes: &[u8]) -> Result<Vec<u64>, AllocError>
     requires { length bytes.now ≡ 8 * count }
     ensures { IfOk result (λ words. words.items ≡ words_in count bytes.now) }

@@ -1,4 +1,4 @@
-// The server file: a set and the words of its server key.
+//! The server file: a set and the words of its server key.
 ghost use Rattle.std.specs.Prelude.{◌≡◌, ◌*◌, length, IfOk, Ok};
 ghost use Rattle.rx_params.specs.Acceptance.{Accepts};
 ghost use Rattle.rx_params.specs.Derived.{key_words as key_words_of};
@@ -54,7 +54,7 @@ fn key_in(alloc: Global, p: &Params, bytes: &[u8]) -> Result<ServerKey, AllocErr
     Ok(ServerKey::from_parts(p, boot, switch))
 }
 
-/// The one file of a server key.
+/// The one file of a server key: 44 bytes, and eight more for each word of the key.
 pub fn encode_server(alloc: Global, value: &ServerKey) -> Result<Vec<u8>, AllocError>
     ensures file { IfOk result (λ bytes. ServerFile bytes.items value.now) }
 {

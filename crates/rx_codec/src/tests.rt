@@ -1,4 +1,4 @@
-// Files of the small set, byte by byte.
+//! Files of the small set, byte by byte.
 use crate::{Client, CodecFault, decode_cipher, decode_client, encode_cipher, encode_client};
 use rx_params::{Kind, Params, Refused};
 use std::alloc::{AllocError, Global};

@@ -1,4 +1,4 @@
-// Server files of the small set: 16,384 bootstrapping words, and then 13,824 switch words.
+//! Server files of the small set: 16,384 bootstrapping words, and then 13,824 switch words.
 use crate::tests::{FIELDS, SMALL, changed, cut};
 use crate::{CodecFault, decode_server, encode_server};
 use rx_params::Refused;

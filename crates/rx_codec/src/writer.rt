@@ -1,4 +1,4 @@
-// Writing lists of numbers, each with its least byte first.
+//! Writing lists of numbers behind what a file has, each with its least byte first.
 ghost use Rattle.std.specs.Prelude.{◌≡◌, ◌++◌, OnOk};
 ghost use Rattle.std.specs.Int.{w32, w64, to_le_bytes};
 ghost use Rattle.std.specs.List.{flat_map};

@@ -1,6 +1,6 @@
 use Rattle.std.proofs.Common.{arith}
-use Rattle.rx_codec.proofs.Accepted.{dim_below}
+use Rattle.rx_params.proofs.Sizes.{large_dim-high}
 use Rattle.rx_codec.proofs.shapes.block_words.Goals as goal
 
 pub returns-clause-few : goal.returns-clause-few
-returns-clause-few c = omega (arith, dim_below c.args.params.now c.requires)
+returns-clause-few c = omega (arith, large_dim-high c.args.params.now c.requires.fields)
