@@ -20,6 +20,7 @@ use Rattle.rx_params.specs.Acceptance.{Accepts, FieldsInRange}
 use Rattle.rx_params.specs.Derived.{large_dim}
 use Rattle.rx_params.specs.Kinds.{greatest, block_count, is_form, digit_at}
 use Rattle.rx_lwe.specs.Lwe.{encrypted}
+use Rattle.rx_lwe.proofs.Made.{encrypted-length}
 use Rattle.rx_block.specs.declared.block.Block.{Block}
 use Rattle.rx_block.specs.Fresh.{fresh}
 use Rattle.rx_block.proofs.FreshBlocks.{fresh-keeps}
@@ -31,12 +32,6 @@ use Rattle.rx_client.specs.Encrypt.{blocks_in, line_blocks, line_item, items_fro
 use Rattle.rx_client.proofs.Items.{HasWritten}
 
 -- ---- one block
-
-encrypted-size : (key : List ℕ) (mask noise : Draws) (bound message : ℕ) → length (encrypted key mask noise bound message) ≡ length key + 1
-unfolding encrypted
-encrypted-size key mask noise bound message =
-    (words_below-are (length key + 1)
-    (lwe_hiding (length key) (of_words key) (λ i. pos (draw mask i)) (pos message) (uniform bound (draw noise 0)))).count
 
 encrypted-words : (key : List ℕ) (mask noise : Draws) (bound message i : ℕ) → i < length (encrypted key mask noise bound message) →
     get_or (encrypted key mask noise bound message) i 0 < 2 ^ 64
@@ -57,7 +52,7 @@ fresh-fits p key mask_seed noise_seed number kind x size =
       degree = omega arith;
       noise_low = omega arith;
       noise_high = omega arith;
-      size = encrypted-size key mask noise p.glwe_bound (unit p.message_bits * x) ∙ ap (λ d. d + 1) size;
+      size = encrypted-length key mask noise p.glwe_bound (unit p.message_bits * x) ∙ ap (λ d. d + 1) size;
       words = λ i low. encrypted-words key mask noise p.glwe_bound (unit p.message_bits * x) i low;
     }
 

@@ -1,24 +1,19 @@
 -- Items whose blocks keep digits are read as the digits' numbers.
-use Rattle.std.proofs.Common.{◌≡◌, ℕ, suc, ◌+◌, List, [], ◌∷◌, ◌++◌, map, None, refl, sym, ap, ◌∙◌, arith}
+use Rattle.std.proofs.Common.{◌≡◌, ℕ, ◌+◌, List, [], ◌∷◌, ◌++◌, map, None, refl, sym, ap, ◌∙◌, arith}
+use Rattle.std.specs.Option.{option_or}
 use Rattle.rx_params.specs.declared.params.Params.{Params}
 use Rattle.rx_params.specs.Acceptance.{Accepts}
 use Rattle.rx_block.specs.declared.block.Block.{Block}
-use Rattle.rx_block.specs.Keeps.{Keeps, AreKept}
+use Rattle.rx_block.specs.Keeps.{AreKept}
 use Rattle.rx_block.specs.NoiseLaws.{KeepsLaws}
+use Rattle.rx_block.proofs.KeptLists.{first_kept}
 use Rattle.rx_codec.specs.declared.cipher.Item.{Item}
 use Rattle.rx_codec.specs.Kept.{AreItemsKept}
-use Rattle.rx_client.specs.Decrypt.{block_number, number_of, named_line, item_lines, kept_lines, damage_here, damage_in, or_later, first_damage}
+use Rattle.rx_client.specs.Decrypt.{block_number, number_of, named_line, item_lines, kept_lines, damage_here, damage_in, first_damage}
 use Rattle.rx_client.specs.Laws.{ReadingLaws}
 use Rattle.rx_client.proofs.Numbers.{within}
 
 -- ---- the blocks of an item
-
-first_kept : (p : Params) (key : List ℕ) (b : Block) (bs : List Block) (x : ℕ) (xs : List ℕ) → AreKept p key (b ∷ bs) (x ∷ xs) →
-    Keeps p key b x × AreKept p key bs xs
-first_kept p key b bs x xs are = (
-  are.each 0 (omega arith),
-  record { count = omega (arith, are.count); each = λ c low. are.each (suc c) (omega (arith, low)) },
-)
 
 no_damage : KeepsLaws → (p : Params) (key name : List ℕ) (place : ℕ) (blocks : List Block) (digits : List ℕ) → Accepts p →
     AreKept p key blocks digits → damage_in p key name place blocks ≡ None
@@ -46,7 +41,7 @@ items_undamaged : KeepsLaws → (p : Params) (key : List ℕ) (items : List Item
 items_undamaged laws p key [] lists accepted are = refl
 items_undamaged laws p key (item ∷ items) [] accepted are = absurd are
 items_undamaged laws p key (item ∷ items) (digits ∷ lists) accepted are =
-    ap (λ damage. or_later damage (first_damage p key items)) (no_damage laws p key item.name 0 item.blocks digits accepted are.0)
+    ap (λ damage. option_or damage (first_damage p key items)) (no_damage laws p key item.name 0 item.blocks digits accepted are.0)
     ∙ items_undamaged laws p key items lists accepted are.1
 
 lines_kept : KeepsLaws → (p : Params) (key : List ℕ) (items : List Item) (lists : List (List ℕ)) → Accepts p →

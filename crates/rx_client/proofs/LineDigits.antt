@@ -1,5 +1,5 @@
 -- The digits of lines: the items of encrypted lines keep them, and they make up the lines' numbers.
-use Rattle.std.proofs.Common.{◌≡◌, ◌⊎◌, inl, inr, ℕ, zero, suc, ◌+◌, ◌*◌, ◌/◌, ◌%◌, ◌^◌, ◌<◌, ◌≤◌, refl, sym, ◌∙◌, ap, arith, subst, true, IsTrue, List, [], ◌∷◌, map, length, get_or}
+use Rattle.std.proofs.Common.{◌≡◌, ◌⊎◌, inl, inr, ℕ, zero, suc, ◌+◌, ◌*◌, ◌/◌, ◌%◌, ◌^◌, ◌<◌, ◌≤◌, sym, ◌∙◌, ap, arith, subst, true, IsTrue, List, [], ◌∷◌, map}
 use Rattle.std.specs.List.{AllByRecursion, range_with_len}
 use Rattle.std.proofs.lemmas.Bool.{eqb-true}
 use Rattle.std.proofs.lemmas.Bool.Decides.{nat_tests}
@@ -10,10 +10,10 @@ use Rattle.rx_params.specs.declared.kind.Kind.TheVariants.{Int, Bit}
 use Rattle.rx_params.specs.Acceptance.{FieldsInRange}
 use Rattle.rx_params.specs.Kinds.{greatest, block_count, digit_at}
 use Rattle.rx_block.specs.declared.block.Block.{Block}
-use Rattle.rx_block.specs.Combine.{no_block}
 use Rattle.rx_block.specs.Fresh.{fresh}
-use Rattle.rx_block.specs.Keeps.{Keeps, AreKept}
+use Rattle.rx_block.specs.Keeps.{AreKept}
 use Rattle.rx_block.proofs.FreshBlocks.{fresh-keeps}
+use Rattle.rx_block.proofs.KeptLists.{none_kept, kept_with}
 use Rattle.rx_circuit.specs.declared.values.ValueLine.{ValueLine}
 use Rattle.rx_circuit.specs.Values.{is_width, IsValueLine, AreValues}
 use Rattle.rx_codec.specs.Kept.{AreItemsKept}
@@ -24,24 +24,13 @@ use Rattle.rx_client.proofs.Encrypted.{digit-small}
 
 -- ---- the items keep the digits
 
-one_kept : (p : Params) (key : List ℕ) (b : Block) (bs : List Block) (x : ℕ) (xs : List ℕ) → Keeps p key b x → AreKept p key bs xs →
-    (c : ℕ) → c < length (b ∷ bs) → Keeps p key (get_or (b ∷ bs) c no_block) (get_or (x ∷ xs) c 0)
-one_kept p key b bs x xs first are zero low = first
-one_kept p key b bs x xs first are (suc c) low = are.each c (omega (arith, low))
-
--- a block that keeps a number, before those that keep theirs
-kept_with : (p : Params) (key : List ℕ) (b : Block) (bs : List Block) (x : ℕ) (xs : List ℕ) → Keeps p key b x → AreKept p key bs xs →
-    AreKept p key (b ∷ bs) (x ∷ xs)
-kept_with p key b bs x xs first are =
-    record { count = ap suc are.count; each = one_kept p key b bs x xs first are }
-
 digits_kept : (p : Params) (key mask_seed noise_seed : List ℕ) (number : ℕ) (kind : Kind) (value start count : ℕ) → FieldsInRange p →
     ((i : ℕ) → i < start + count → digit_at p.message_bits value i ≤ greatest kind p.message_bits) →
     AreKept p key
     (map (λ i. fresh p key mask_seed noise_seed (number + i) kind (digit_at p.message_bits value i)) (range_with_len start count))
     (map (digit_at p.message_bits value) (range_with_len start count))
 digits_kept p key mask_seed noise_seed number kind value start zero fields small =
-    record { count = refl; each = λ c low. absurd (omega (arith, low)) }
+    none_kept p key
 digits_kept p key mask_seed noise_seed number kind value start (suc count) fields small =
     let f : ℕ → Block = λ i. fresh p key mask_seed noise_seed (number + i) kind (digit_at p.message_bits value i) in
     kept_with p key (f start) (map f (range_with_len (start + 1) count)) (digit_at p.message_bits value start)

@@ -1,6 +1,7 @@
 -- What a client reads: the number of each item, by what its blocks decode to.
 use Rattle.std.specs.Prelude.{ℕ, ◌+◌, ◌*◌, ◌^◌, List, [], ◌∷◌, ◌++◌, map, decimal, Option, Some, None, Result, Ok, Err}
 use Rattle.std.specs.List.{flat_map}
+use Rattle.std.specs.Option.{option_or}
 use Rattle.rx_laws.specs.Decode.{decoded}
 use Rattle.rx_params.specs.declared.params.Params.{Params}
 use Rattle.rx_lwe.specs.Lwe.{phase_of}
@@ -41,15 +42,11 @@ damage_in p key name place [] = None
 damage_in p key name place (block ∷ blocks) =
     damage_here name place (decrypted p key block) (damage_in p key name (place + 1) blocks)
 
-abbrev pub or_later : Option Damage → Option Damage → Option Damage
-or_later None later = later
-or_later (Some damage) later = Some damage
-
 -- the first block that exceeds its degree, in the order of items and blocks
 abbrev pub first_damage : Params → List ℕ → List Item → Option Damage
 first_damage p key [] = None
 first_damage p key (item ∷ items) =
-    or_later (damage_in p key item.name 0 item.blocks) (first_damage p key items)
+    option_or (damage_in p key item.name 0 item.blocks) (first_damage p key items)
 
 -- the lines of items whose blocks keep the digits of these lists
 abbrev pub kept_lines : ℕ → List Item → List (List ℕ) → List ℕ

@@ -1,4 +1,4 @@
-// Reading numbers under encryption.
+//! Reading numbers under encryption.
 ghost use Rattle.std.specs.Prelude.{◌≡◌, None, Some, MatchResult, length, string_bytes};
 ghost use Rattle.std.specs.List.{AllByRecursion};
 ghost use Rattle.rx_params.specs.Acceptance.{Accepts, FieldsInRange};
@@ -23,7 +23,9 @@ pub struct Damage {
     pub name: Name,
     /// The block's place in its item, from 0.
     pub block: u32,
+    /// The number that it decodes to, below `4^message_bits`.
     pub decoded: u32,
+    /// Its degree.
     pub degree: u8,
 }
 
@@ -33,6 +35,7 @@ pub enum DecryptError {
     /// The first block, in the order of items and blocks, that decodes to a number above its degree.
     #[error("a block is damaged")]
     Damaged(Damage),
+    /// Memory ran out.
     #[error("out of memory")]
     Memory,
 }
@@ -61,8 +64,8 @@ impl<T: Drop> From<AllocFailed<T>> for DecryptError {
     }
 }
 
-/// A line for each item: its name, a space, its number and a line feed. Where the blocks keep digits, that is
-/// the digits' number.
+/// A line for each item of an accepted set, under its large key: the item's name, a space, its number and a line
+/// feed. Where the blocks keep digits, that is the digits' number.
 pub fn decrypt_items(
     alloc: Global,
     p: &Params,

@@ -1,4 +1,4 @@
-// Numbers of a value file under encryption.
+//! Numbers of a value file under encryption.
 ghost use Rattle.std.specs.Prelude.{◌≡◌, ◌⊎◌, ◌+◌, ◌*◌, ◌^◌, ◌<◌, ◌++◌, IfOk, OnOk, None, length, map};
 ghost use Rattle.std.specs.Option.{option_copied};
 ghost use Rattle.rx_params.specs.Acceptance.{Accepts, FieldsInRange};
@@ -40,9 +40,9 @@ fn has_width(message_bits: u32, line: &ValueLine) -> bool
     }
 }
 
-/// The ciphertext file of the lines under a key: each line becomes an item of its fresh blocks, which are
-/// numbered through the whole file from 0. The two seeds serve one file. Each block stands in the file
-/// before the next is made.
+/// The ciphertext file of the lines of a value file under the large key of an accepted set; no line is of a wrong
+/// width. Each line becomes an item of its fresh blocks, which are numbered through the whole file from 0. The two
+/// seeds serve one file. Each block stands in the file before the next is made.
 pub fn encrypt_values(
     alloc: Global,
     p: &Params,

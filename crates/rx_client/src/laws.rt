@@ -1,4 +1,4 @@
-// The laws of items that keep numbers, as contracts can name them.
+//! The laws of items that keep numbers, as contracts can name them.
 ghost use Rattle.rx_client.specs.Laws.{EncryptingLaws, ReadingLaws};
 
 use rx_block::keeps_laws;

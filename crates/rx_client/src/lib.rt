@@ -1,4 +1,6 @@
-//! What a client does with its keys: it encrypts named numbers, and reads them again.
+//! What a client does with its keys: it encrypts named numbers, and reads them again. Each block of a number holds one
+//! digit of `message_bits` bits, the first the lowest. Source: handbook, integer (radix), named as in
+//! `docs/DEFINITIONS.md`; files and lines `docs/FORMATS.md`.
 #![tactic(auto)]
 
 mod decrypt;

@@ -1,4 +1,4 @@
-// Numbers that come back, widths that do not fit, and a block that is damaged.
+//! Numbers that come back, widths that do not fit, and a block that is damaged.
 ghost use Rattle.std.specs.Prelude.{◌≡◌, ◌≤◌, None, IfOk, length};
 ghost use Rattle.std.specs.List.{AllByRecursion};
 ghost use Rattle.rx_params.specs.Acceptance.{Accepts};
