@@ -5,6 +5,7 @@ use Rattle.std.specs.List.{flat_map, filter, AllByRecursion}
 use Rattle.std.specs.Str.{bytes_eq}
 use Rattle.std.proofs.lemmas.List.{append-nil}
 use Rattle.std.proofs.lemmas.Bool.{ltb-false, eqb-true}
+use Rattle.std.specs.Option.{option_or}
 use Rattle.rx_params.specs.declared.params.Params.{Params}
 use Rattle.rx_params.specs.declared.kind.Kind.{Kind}
 use Rattle.rx_params.specs.declared.kind.Kind.TheVariants.{Int, Bit}
@@ -12,6 +13,7 @@ use Rattle.rx_params.specs.Kinds.{block_count}
 use Rattle.rx_net.specs.declared.net.NetInput.{NetInput}
 use Rattle.rx_net.specs.declared.net.Net.{Net}
 use Rattle.rx_net.specs.Cells.{input_cells, given, degree, noise}
+use Rattle.rx_net.proofs.Each.{all_append}
 use Rattle.rx_net.proofs.Inputs.{given_degree, given_noise}
 use Rattle.rx_block.specs.declared.block.Block.{Block}
 use Rattle.rx_block.specs.Combine.{no_block}
@@ -20,12 +22,12 @@ use Rattle.rx_codec.specs.declared.cipher.Cipher.{Cipher}
 use Rattle.rx_codec.specs.CipherFile.{IsBlock, IsItem}
 use Rattle.rx_server.specs.declared.fault.InputFault.{InputFault}
 use Rattle.rx_server.specs.declared.fault.InputFault.TheVariants.{Form, Degree, Noise}
-use Rattle.rx_server.specs.Inputs.{items_of, named, same_kind, tags_fault, item_fault, found_fault, or_later, first_fault, blocks_found}
+use Rattle.rx_server.specs.Inputs.{items_of, named, same_kind, tags_fault, item_fault, found_fault, first_fault, blocks_found}
 use Rattle.rx_server.specs.Laws.{AreCiphersOf, IsBlockWithin, AreCellBlocks}
 
 -- ---- an input without a fault
 
-pub no_fault : (a b : Option InputFault) → or_later a b ≡ None → (a ≡ None) × (b ≡ None)
+pub no_fault : (a b : Option InputFault) → option_or a b ≡ None → (a ≡ None) × (b ≡ None)
 no_fault (Some fault) b e = absurd cc
 no_fault None b e = (refl, e)
 
@@ -129,15 +131,11 @@ found_all p space (i ∷ is) items s all e =
           (flat_map (λ (item : Item). item.blocks) (named i.name items)) (blocks_found is items) first.count first.within rest.each;
     }
 
-appended : {X : Type 0} (P : X → Type 0) (xs ys : List X) → AllByRecursion P xs → AllByRecursion P ys → AllByRecursion P (xs ++ ys)
-appended P [] ys h k = k
-appended P (x ∷ xs) ys h k = (h.0, appended P xs ys h.1 k)
-
 items_fit : (p : Params) (ciphers : List Cipher) → AreCiphersOf p ciphers → AllByRecursion (IsItem p) (items_of ciphers)
 items_fit p [] are = tt
 items_fit p (c ∷ ciphers) are =
     let fits : AllByRecursion (IsItem p) c.items = subst (λ (q : Params). AllByRecursion (IsItem q) c.items) are.0.0 are.0.1.items in
-    appended (IsItem p) c.items (items_of ciphers) fits (items_fit p ciphers are.1)
+    all_append (IsItem p) c.items (items_of ciphers) fits (items_fit p ciphers are.1)
 
 pub found_fit : (p : Params) (net : Net) (ciphers : List Cipher) → net.space ≡ p.message_bits → AreCiphersOf p ciphers
     → first_fault net.inputs (items_of ciphers) ≡ None → AreCellBlocks p net (input_cells net.space net.inputs) (blocks_found net.inputs (items_of ciphers))

@@ -1,36 +1,15 @@
 -- The digits that are found for the inputs of a net.
-use Rattle.std.proofs.Common.{ℕ, zero, suc, ◌<◌, true, false, List, [], ◌∷◌, ◌++◌, length, get_or, refl, ap, cond, arith}
+use Rattle.std.proofs.Common.{ℕ, true, false, List, [], ◌∷◌, ◌++◌, cond}
 use Rattle.std.specs.List.{flat_map}
 use Rattle.std.specs.Str.{bytes_eq}
 use Rattle.rx_params.specs.declared.params.Params.{Params}
 use Rattle.rx_net.specs.declared.net.NetInput.{NetInput}
 use Rattle.rx_block.specs.declared.block.Block.{Block}
-use Rattle.rx_block.specs.Combine.{no_block}
-use Rattle.rx_block.specs.Keeps.{Keeps, AreKept}
+use Rattle.rx_block.specs.Keeps.{AreKept}
+use Rattle.rx_block.proofs.KeptLists.{none_kept, both_kept}
 use Rattle.rx_codec.specs.declared.cipher.Item.{Item}
 use Rattle.rx_codec.specs.Kept.{AreItemsKept}
 use Rattle.rx_server.specs.Inputs.{named, blocks_found, digits_named, digits_found}
-
-none_kept : (p : Params) (key : List ℕ) → AreKept p key [] []
-none_kept p key = record { count = refl; each = λ c low. absurd (omega (arith, low)) }
-
-one_kept : (p : Params) (key : List ℕ) (b : Block) (bs : List Block) (x : ℕ) (xs : List ℕ) → Keeps p key b x → AreKept p key bs xs
-    → (c : ℕ) → c < length (b ∷ bs) → Keeps p key (get_or (b ∷ bs) c no_block) (get_or (x ∷ xs) c 0)
-one_kept p key b bs x xs first are zero low = first
-one_kept p key b bs x xs first are (suc c) low = are.each c (omega (arith, low))
-
-rest_kept : (p : Params) (key : List ℕ) (b : Block) (bs : List Block) (x : ℕ) (xs : List ℕ) → AreKept p key (b ∷ bs) (x ∷ xs) → AreKept p key bs xs
-rest_kept p key b bs x xs are = record { count = omega (arith, are.count); each = λ c low. are.each (suc c) (omega (arith, low)) }
-
--- blocks that keep values, and more of them
-both_kept : (p : Params) (key : List ℕ) (bs more : List Block) (xs others : List ℕ) → AreKept p key bs xs → AreKept p key more others
-    → AreKept p key (bs ++ more) (xs ++ others)
-both_kept p key [] more [] others first second = second
-both_kept p key [] more (x ∷ xs) others first second = absurd (omega (arith, first.count))
-both_kept p key (b ∷ bs) more [] others first second = absurd (omega (arith, first.count))
-both_kept p key (b ∷ bs) more (x ∷ xs) others first second =
-    let rest : AreKept p key (bs ++ more) (xs ++ others) = both_kept p key bs more xs others (rest_kept p key b bs x xs first) second in
-    record { count = ap suc rest.count; each = one_kept p key b (bs ++ more) x (xs ++ others) (first.each 0 (omega arith)) rest }
 
 -- the items of a name
 named_kept : (p : Params) (key name : List ℕ) (items : List Item) (lists : List (List ℕ)) → AreItemsKept p key items lists

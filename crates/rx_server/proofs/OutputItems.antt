@@ -1,13 +1,11 @@
 -- The items of the outputs of a net.
-use Rattle.std.proofs.Common.{◌≡◌, ℕ, zero, suc, ◌+◌, ◌-◌, ◌<◌, ◌≤◌, Bool, true, false, List, [], ◌∷◌, ◌++◌, length, get_or, map, take, drop, refl, sym, ◌∙◌, ap, subst, append_assoc, arith}
-use Rattle.std.specs.Prelude.{◌&&◌, ◌||◌, ◌==◌, nat_le, nat_lt, not, IsTrue}
+use Rattle.std.proofs.Common.{◌≡◌, ℕ, suc, ◌+◌, ◌-◌, ◌<◌, ◌≤◌, false, List, [], ◌∷◌, ◌++◌, length, get_or, map, take, drop, refl, sym, ◌∙◌, ap, subst, append_assoc, arith}
+use Rattle.std.specs.Prelude.{◌&&◌, ◌==◌, nat_le, nat_lt, not, IsTrue}
 use Rattle.std.specs.List.{AllByRecursion}
 use Rattle.std.specs.Str.{bytes_eq}
-use Rattle.std.proofs.lemmas.List.{length-map, map-append}
+use Rattle.std.proofs.lemmas.List.{length-map, map-append, take_at, drop_at}
 use Rattle.std.proofs.lemmas.List.Folds.{list_any-append}
-use Rattle.std.proofs.lemmas.Bool.{leb-true, ltb-true, eqb-true}
-use Rattle.std.proofs.lemmas.Bool.Decides.{same_from_decides, Decides-like}
-use Rattle.std.proofs.lemmas.Slice.Eq.{bytes_eq-Decides}
+use Rattle.std.proofs.lemmas.Bool.{leb-true, ltb-true, eqb-true, and_parts, or_parts, not-true}
 use Rattle.rx_text.specs.Names.{is_name}
 use Rattle.rx_params.specs.declared.params.Params.{Params}
 use Rattle.rx_params.specs.declared.kind.Kind.{Kind}
@@ -17,41 +15,32 @@ use Rattle.rx_net.specs.declared.net.NetOutput.{NetOutput}
 use Rattle.rx_net.specs.declared.net.Net.{Net}
 use Rattle.rx_net.specs.Cells.{cell_count, degree, noise}
 use Rattle.rx_net.specs.Legal.{InTurn, Legal, is_output, are_cells, names_output}
+use Rattle.rx_net.proofs.Fits.{cells_below}
 use Rattle.rx_block.specs.declared.block.Block.{Block}
 use Rattle.rx_block.specs.Combine.{no_block}
-use Rattle.rx_block.specs.Keeps.{Keeps, AreKept}
-use Rattle.rx_block.specs.Outputs.{blocks_at, numbers_of, output_blocks}
+use Rattle.rx_block.specs.Keeps.{AreKept}
+use Rattle.rx_block.specs.Outputs.{numbered_blocks, numbers_of, output_blocks}
+use Rattle.rx_block.proofs.KeptLists.{numbered_kept}
 use Rattle.rx_codec.specs.CipherFile.{has_item, IsBlock, IsItem, ItemsOnce, IsCipher}
 use Rattle.rx_codec.specs.Kept.{AreItemsKept}
+use Rattle.rx_codec.proofs.Ciphers.{eq_symm}
 use Rattle.rx_server.specs.Outputs.{output_item, items_over, outputs_cipher, values_of}
 use Rattle.rx_server.specs.Laws.{IsBlockWithin, AreCellBlocks}
 
 -- ---- blocks shared out among the outputs
 
-taken_first : (xs ys : List Block) (n : ℕ) → length xs ≡ n → take n (xs ++ ys) ≡ xs
-taken_first [] ys zero e = refl
-taken_first [] ys (suc n) e = absurd (omega (arith, e))
-taken_first (x ∷ xs) ys zero e = absurd (omega (arith, e))
-taken_first (x ∷ xs) ys (suc n) e = ap (λ zs. x ∷ zs) (taken_first xs ys n (omega (arith, e)))
-
-dropped_first : (xs ys : List Block) (n : ℕ) → length xs ≡ n → drop n (xs ++ ys) ≡ ys
-dropped_first [] ys zero e = refl
-dropped_first [] ys (suc n) e = absurd (omega (arith, e))
-dropped_first (x ∷ xs) ys zero e = absurd (omega (arith, e))
-dropped_first (x ∷ xs) ys (suc n) e = dropped_first xs ys n (omega (arith, e))
-
 -- the blocks of the first output, and those of the others
 first_output : (cells : List Block) (o : NetOutput) (os : List NetOutput) →
-    output_blocks cells (o ∷ os) ≡ blocks_at cells o.cells ++ output_blocks cells os
+    output_blocks cells (o ∷ os) ≡ numbered_blocks cells o.cells ++ output_blocks cells os
 first_output cells o os = map-append (λ (c : ℕ). get_or cells c no_block) o.cells (numbers_of os)
 
 pub shared_out : (cells : List Block) (os : List NetOutput) → items_over os (output_blocks cells os) ≡ map (output_item cells) os
 shared_out cells [] = refl
 shared_out cells (o ∷ os) =
-    let first : List Block = blocks_at cells o.cells in
+    let first : List Block = numbered_blocks cells o.cells in
     let others : List Block = output_blocks cells os in
     let size : length first ≡ length o.cells = length-map o.cells (λ (c : ℕ). get_or cells c no_block) in
-    rw (first_output cells o os, taken_first first others (length o.cells) size, dropped_first first others (length o.cells) size)
+    rw (first_output cells o os, take_at first others (length o.cells) size, drop_at first others (length o.cells) size)
     (ap (λ items. output_item cells o ∷ items) (shared_out cells os))
 
 -- one block more is taken of those that are left
@@ -67,21 +56,6 @@ left_over n i left rest b low e =
 
 -- ---- names that stand once
 
-eq_symm : (a b : List ℕ) → bytes_eq a b ≡ bytes_eq b a
-eq_symm a b = same_from_decides (bytes_eq a b) (bytes_eq b a) (bytes_eq-Decides a b) (Decides-like (bytes_eq b a) sym sym (bytes_eq-Decides b a))
-
-both : (a b : Bool) → IsTrue (a && b) → IsTrue a × IsTrue b
-both true b e = (refl, e)
-both false b e = absurd cc
-
-is_not : (a : Bool) → IsTrue (not a) → a ≡ false
-is_not true e = absurd cc
-is_not false e = refl
-
-or_false : (a b : Bool) → (a || b) ≡ false → (a ≡ false) × (b ≡ false)
-or_false true b e = absurd cc
-or_false false b e = (refl, e)
-
 -- what an output says that is lawful after those before it
 record IsOutput (space count : ℕ) (degree : ℕ → ℕ) (before : List NetOutput) (o : NetOutput) : Type 0 where
   form : IsTrue (is_form space o.kind o.bits)
@@ -91,12 +65,12 @@ record IsOutput (space count : ℕ) (degree : ℕ → ℕ) (before : List NetOut
 
 output_is : (space count : ℕ) (degree : ℕ → ℕ) (before : List NetOutput) (o : NetOutput) → IsTrue (is_output space count degree before o) → IsOutput space count degree before o
 output_is space count degree before o h =
-    let a = both (is_form space o.kind o.bits)
+    let a = and_parts (is_form space o.kind o.bits)
     ((length o.cells == block_count o.kind space o.bits) && (not (names_output o.name before) && are_cells count degree (greatest o.kind space) o.cells)) h in
-    let b = both (length o.cells == block_count o.kind space o.bits)
+    let b = and_parts (length o.cells == block_count o.kind space o.bits)
     (not (names_output o.name before) && are_cells count degree (greatest o.kind space) o.cells) a.1 in
-    let c = both (not (names_output o.name before)) (are_cells count degree (greatest o.kind space) o.cells) b.1 in
-    record { form = a.0; size = eqb-true (length o.cells) (block_count o.kind space o.bits) b.0; new = is_not (names_output o.name before) c.0; cells = c.1 }
+    let c = and_parts (not (names_output o.name before)) (are_cells count degree (greatest o.kind space) o.cells) b.1 in
+    record { form = a.0; size = eqb-true (length o.cells) (block_count o.kind space o.bits) b.0; new = not-true (names_output o.name before) c.0; cells = c.1 }
 
 -- an output that stands among those before has a name that no output after them has
 abbrev StandsIn : NetOutput → List NetOutput → Type 0
@@ -104,12 +78,12 @@ StandsIn o before = (name : List ℕ) → names_output name before ≡ false →
 
 stands_last : (o : NetOutput) (before : List NetOutput) → StandsIn o (before ++ o ∷ [])
 stands_last o before name e =
-    let parts = or_false (names_output name before) (names_output name (o ∷ [])) (sym (list_any-append (λ (q : NetOutput). bytes_eq q.name name) before (o ∷ [])) ∙ e) in
-    (or_false (bytes_eq o.name name) false parts.1).0
+    let parts = or_parts (names_output name before) (names_output name (o ∷ [])) (sym (list_any-append (λ (q : NetOutput). bytes_eq q.name name) before (o ∷ [])) ∙ e) in
+    (or_parts (bytes_eq o.name name) false parts.1).0
 
 stands_still : (o : NetOutput) (before : List NetOutput) (more : NetOutput) → StandsIn o before → StandsIn o (before ++ more ∷ [])
 stands_still o before more stands name e =
-    let parts = or_false (names_output name before) (names_output name (more ∷ [])) (sym (list_any-append (λ (q : NetOutput). bytes_eq q.name name) before (more ∷ [])) ∙ e) in
+    let parts = or_parts (names_output name before) (names_output name (more ∷ [])) (sym (list_any-append (λ (q : NetOutput). bytes_eq q.name name) before (more ∷ [])) ∙ e) in
     stands name parts.0
 
 abbrev AreOutputs : ℕ → ℕ → (ℕ → ℕ) → List NetOutput → List NetOutput → Type 0
@@ -142,9 +116,9 @@ cells_fit p net kind [] blocks are h = tt
 cells_fit p net kind (c ∷ cells) blocks are h =
     let count : ℕ = cell_count net in
     let most : ℕ = greatest kind p.message_bits in
-    let a = both (nat_lt c (cell_count net) && nat_le (degree net c) (greatest kind p.message_bits))
+    let a = and_parts (nat_lt c (cell_count net) && nat_le (degree net c) (greatest kind p.message_bits))
     (are_cells (cell_count net) (degree net) (greatest kind p.message_bits) cells) h in
-    let b = both (nat_lt c (cell_count net)) (nat_le (degree net c) (greatest kind p.message_bits)) a.0 in
+    let b = and_parts (nat_lt c (cell_count net)) (nat_le (degree net c) (greatest kind p.message_bits)) a.0 in
     let there : c < cell_count net = ltb-true c (cell_count net) b.0 in
     let low : degree net c ≤ greatest kind p.message_bits = leb-true (degree net c) (greatest kind p.message_bits) b.1 in
     let block : IsBlockWithin p (degree net c) (noise net c) (get_or blocks c no_block) = are.each c (omega (arith, there, are.count)) in (
@@ -180,27 +154,10 @@ outputs_fit p net blocks accepted s legal names are = record {
 
 -- ---- what the items keep
 
-cell_keeps : (p : Params) (key : List ℕ) (blocks : List Block) (values : List ℕ) (degree : ℕ → ℕ) (most : ℕ) (cells : List ℕ) (i : ℕ)
-    → AreKept p key blocks values → IsTrue (are_cells (length blocks) degree most cells) → i < length cells
-    → Keeps p key (get_or (map (λ c. get_or blocks c no_block) cells) i no_block) (get_or (map (λ c. get_or values c 0) cells) i 0)
-cell_keeps p key blocks values degree most [] i are h low = absurd (omega (arith, low))
-cell_keeps p key blocks values degree most (c ∷ cells) zero are h low =
-    let a = both (nat_lt c (length blocks) && nat_le (degree c) most) (are_cells (length blocks) degree most cells) h in
-    let b = both (nat_lt c (length blocks)) (nat_le (degree c) most) a.0 in
-    are.each c (ltb-true c (length blocks) b.0)
-cell_keeps p key blocks values degree most (c ∷ cells) (suc i) are h low =
-    let a = both (nat_lt c (length blocks) && nat_le (degree c) most) (are_cells (length blocks) degree most cells) h in
-    cell_keeps p key blocks values degree most cells i are a.1 (omega (arith, low))
-
 output_keeps : (p : Params) (key : List ℕ) (blocks : List Block) (values : List ℕ) (degree : ℕ → ℕ) (most : ℕ) (o : NetOutput)
     → AreKept p key blocks values → IsTrue (are_cells (length blocks) degree most o.cells)
-    → AreKept p key (blocks_at blocks o.cells) (values_of values o)
-output_keeps p key blocks values degree most o are h =
-    let size : length (blocks_at blocks o.cells) ≡ length o.cells = length-map o.cells (λ (c : ℕ). get_or blocks c no_block) in
-    record {
-      count = length-map o.cells (λ (c : ℕ). get_or values c 0) ∙ sym size;
-      each = λ i low. cell_keeps p key blocks values degree most o.cells i are h (omega (arith, low, size));
-    }
+    → AreKept p key (numbered_blocks blocks o.cells) (values_of values o)
+output_keeps p key blocks values degree most o are h = numbered_kept p key blocks values o.cells are (cells_below (length blocks) degree most o.cells h)
 
 items_keep : (p : Params) (space : ℕ) (key : List ℕ) (blocks : List Block) (values : List ℕ) (degree : ℕ → ℕ) (before os : List NetOutput)
     → AreKept p key blocks values → AreOutputs space (length blocks) degree before os

@@ -2,6 +2,7 @@
 use Rattle.std.specs.Prelude.{ℕ, Bool, true, false, nat_lt, ◌&&◌, ◌==◌, List, [], ◌∷◌, ◌++◌, Option, Some, None, if◌then◌else◌}
 use Rattle.std.specs.List.{flat_map, filter}
 use Rattle.std.specs.Str.{bytes_eq}
+use Rattle.std.specs.Option.{option_or}
 use Rattle.rx_params.specs.declared.kind.Kind.{Kind}
 use Rattle.rx_params.specs.declared.kind.Kind.TheVariants.{Int, Bit}
 use Rattle.rx_net.specs.declared.net.NetInput.{NetInput}
@@ -43,14 +44,10 @@ found_fault input [] = Some (Missing input.name)
 found_fault input (item ∷ []) = item_fault input item
 found_fault input (item ∷ more ∷ items) = Some (Twice input.name)
 
-abbrev pub or_later : Option InputFault → Option InputFault → Option InputFault
-or_later (Some fault) later = Some fault
-or_later None later = later
-
 -- the first input that is not among the items as the net wants it
 abbrev pub first_fault : List NetInput → List Item → Option InputFault
 first_fault [] items = None
-first_fault (input ∷ inputs) items = or_later (found_fault input (named input.name items)) (first_fault inputs items)
+first_fault (input ∷ inputs) items = option_or (found_fault input (named input.name items)) (first_fault inputs items)
 
 -- the blocks of the inputs, in the order of the net
 abbrev pub blocks_found : List NetInput → List Item → List Block

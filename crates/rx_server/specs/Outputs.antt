@@ -3,7 +3,7 @@ use Rattle.std.specs.Prelude.{ℕ, List, [], ◌∷◌, length, map, get_or, tak
 use Rattle.rx_params.specs.declared.params.Params.{Params}
 use Rattle.rx_net.specs.declared.net.NetOutput.{NetOutput}
 use Rattle.rx_block.specs.declared.block.Block.{Block}
-use Rattle.rx_block.specs.Outputs.{blocks_at}
+use Rattle.rx_block.specs.Outputs.{numbered_blocks}
 use Rattle.rx_codec.specs.declared.cipher.Item.{Item}
 use Rattle.rx_codec.specs.declared.cipher.Cipher.{Cipher}
 
@@ -13,7 +13,7 @@ item_with output blocks = record { name = output.name; kind = output.kind; bits 
 
 -- an output whose blocks are those of its cells
 abbrev pub output_item : List Block → NetOutput → Item
-output_item cells output = item_with output (blocks_at cells output.cells)
+output_item cells output = item_with output (numbered_blocks cells output.cells)
 
 -- outputs that share out some blocks, each as many as it has cells
 abbrev pub items_over : List NetOutput → List Block → List Item

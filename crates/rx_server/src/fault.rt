@@ -1,8 +1,9 @@
-// Why the items of some files are not the inputs of a net.
+//! Why the items of some files are not the inputs of a net.
 use rx_params::Name;
 use thiserror::Error;
 
-/// The first input of a net that the items of some files do not give as the net wants it.
+/// The first input of a net that the items of some files do not give as the net wants it. Its name is looked for
+/// first, then its form is compared, and then block after block, from the least, the degree and the noise tag.
 #[derive(Clone, Copy, Debug, Error)]
 pub enum InputFault {
     /// No item has the name.
@@ -14,10 +15,10 @@ pub enum InputFault {
     /// The item is of another kind, or has other bits.
     #[error("an input has another form")]
     Form(Name),
-    /// The degree of a block is above that of the input.
+    /// The degree `value` of a block is above that of the input.
     #[error("an input has degree {value} above {limit}")]
     Degree { name: Name, value: u8, limit: u8 },
-    /// The noise tag of a block is above that of the input.
+    /// The noise tag `value` of a block is above that of the input.
     #[error("an input has noise {value} above {limit}")]
     Noise { name: Name, value: u8, limit: u8 },
 }

@@ -1,4 +1,4 @@
-// The inputs of a net among the items of ciphertext files.
+//! The inputs of a net among the items of ciphertext files.
 ghost use Rattle.std.specs.Prelude.{◌≡◌, ◌≤◌, ◌++◌, ◌∷◌, [], IfOk, OnOk, MatchResult, None, Some, length};
 ghost use Rattle.std.specs.Option.{option_copied, option_to_list};
 ghost use Rattle.rx_server.specs.Inputs.{first_fault, found_fault, item_fault, tags_fault, named, items_of, blocks_found};

@@ -1,4 +1,4 @@
-// The laws of the inputs of nets and of their outputs.
+//! The laws of the inputs of nets and of their outputs.
 ghost use Rattle.rx_server.specs.Laws.{ServerLaws};
 
 /// What is found for the inputs of a net in files of one set are blocks for its input cells, and keep what the

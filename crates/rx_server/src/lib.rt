@@ -1,5 +1,5 @@
 //! What a server does beside the evaluation of a net: it finds the inputs of the net in ciphertext files,
-//! and makes items of its outputs.
+//! and makes items of its outputs. Source: `docs/FORMATS.md`, Nets.
 #![tactic(auto)]
 
 mod fault;

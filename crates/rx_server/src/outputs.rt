@@ -1,4 +1,4 @@
-// The outputs of a net, as the items of a ciphertext file.
+//! The outputs of a net, as the items of a ciphertext file.
 ghost use Rattle.std.specs.Prelude.{◌≡◌, List, IfOk, map, take, drop};
 ghost use Rattle.std.specs.Vec.Iter.{into_iter_items};
 ghost use Rattle.rx_block.specs.declared.block.Block.{Block};
@@ -11,8 +11,8 @@ use rx_net::NetOutput;
 use std::alloc::{AllocError, Global};
 use std::vec::IntoIter;
 
-/// The items of the outputs of a net, over the blocks of all outputs, one output's after another. No words are
-/// copied.
+/// The items of the outputs of a net, over the blocks of all outputs, one output's after another: as many for each as
+/// it has cells. No words are copied.
 pub fn output_items(
     alloc: Global,
     outputs: &[NetOutput],

@@ -1,4 +1,4 @@
-// Inputs found in files and outputs made of blocks, with each way in which an input can be wrong.
+//! Inputs found in files and outputs made of blocks, with each way in which an input can be wrong.
 use crate::{InputFault, first_fault, gather_inputs, output_items};
 use rx_block::Block;
 use rx_codec::{Blocks, Cipher, Item, Items};
@@ -76,39 +76,51 @@ fn inputs_are_found_in_the_order_of_the_net(rt: HostRuntime) -> Result<(), Fail>
     Ok(())
 }
 
-#[test]
-fn each_fault_of_an_input(rt: HostRuntime) -> Result<(), Fail> {
-    let alloc = rt.alloc();
+// Two files with an item `a`, and between them one with an item `b` whose greatest degree is 4 and noise tag 2.
+fn three_files(rt: &impl Abort, alloc: Global) -> Result<[Cipher; 3], Fail> {
     let Some(p) = named("rx-test") else {
         panic!(rt; "a set of that name");
     };
-    let (a, b) = (name(&rt, "a"), name(&rt, "b"));
-    let files = [
+    let (a, b) = (name(rt, "a"), name(rt, "b"));
+    Ok([
         cipher(alloc, p, item(alloc, a, 10, 3, 1)?)?,
         cipher(alloc, p, item(alloc, b, 20, 4, 2)?)?,
         cipher(alloc, p, item(alloc, a, 30, 3, 1)?)?,
-    ];
+    ])
+}
+
+#[test]
+fn an_input_is_missing_or_stands_twice(rt: HostRuntime) -> Result<(), Fail> {
+    let files = three_files(&rt, rt.alloc())?;
     let missing = first_fault(&[input(name(&rt, "c"))], &files);
     assert!(rt; matches!(missing, Some(InputFault::Missing(_))));
-    let twice = first_fault(&[input(a), input(b)], &files);
+    let twice = first_fault(&[input(name(&rt, "a")), input(name(&rt, "b"))], &files);
     assert!(rt; matches!(twice, Some(InputFault::Twice(_))));
-    let form = first_fault(
-        &[NetInput {
-            bits: 6,
-            ..input(b)
-        }],
-        &files,
-    );
-    assert!(rt; matches!(form, Some(InputFault::Form(_))));
+    Ok(())
+}
+
+#[test]
+fn an_input_has_other_bits_or_another_kind(rt: HostRuntime) -> Result<(), Fail> {
+    let files = three_files(&rt, rt.alloc())?;
+    let b = input(name(&rt, "b"));
+    let bits = first_fault(&[NetInput { bits: 6, ..b }], &files);
+    assert!(rt; matches!(bits, Some(InputFault::Form(_))));
     let kind = first_fault(
         &[NetInput {
             kind: Kind::Bit,
-            ..input(b)
+            ..b
         }],
         &files,
     );
     assert!(rt; matches!(kind, Some(InputFault::Form(_))));
-    let degree = first_fault(&[input(b)], &files);
+    Ok(())
+}
+
+#[test]
+fn an_input_has_a_greater_degree_or_noise_tag(rt: HostRuntime) -> Result<(), Fail> {
+    let files = three_files(&rt, rt.alloc())?;
+    let b = input(name(&rt, "b"));
+    let degree = first_fault(&[b], &files);
     assert!(rt;
         matches!(
             degree,
@@ -119,13 +131,7 @@ fn each_fault_of_an_input(rt: HostRuntime) -> Result<(), Fail> {
             })
         )
     );
-    let noise = first_fault(
-        &[NetInput {
-            degree: 4,
-            ..input(b)
-        }],
-        &files,
-    );
+    let noise = first_fault(&[NetInput { degree: 4, ..b }], &files);
     assert!(rt;
         matches!(
             noise,
