@@ -1,4 +1,4 @@
-// Where two sets differ.
+//! Where two sets differ.
 ghost use Rattle.std.specs.Prelude.{◌≡◌, ◌==◌, if◌then◌else◌, Some, None};
 ghost use Rattle.rx_report.specs.Reports.{difference_of};
 
@@ -7,7 +7,7 @@ use rx_params::Params;
 /// A field that differs between two sets.
 #[derive(Clone, Copy, Debug, PartialEq, Eq)]
 pub struct Difference {
-    /// The place of the field, from 1.
+    /// The place of the field, 1 to 10, in the order of a parameter text.
     pub field: u32,
     /// Its value in the first set.
     pub first: u32,

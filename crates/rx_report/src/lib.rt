@@ -1,4 +1,4 @@
-//! Why a command is refused, and the line that reports it.
+//! Why a command is refused, and the line that reports it. Source: `docs/FORMATS.md`, Reports.
 #![tactic(auto)]
 
 mod difference;

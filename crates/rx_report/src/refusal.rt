@@ -1,4 +1,4 @@
-// Why a command was refused: a kind, which gives the status, and the line that reports it.
+//! Why a command was refused: a kind, which gives the status, and the line that reports it.
 ghost use Rattle.std.specs.Prelude.{◌≡◌, string_bytes};
 ghost use Rattle.rx_report.specs.Reports.{status_of};
 
@@ -24,7 +24,7 @@ pub enum Kind {
 impl Kind {
     ghost use Rattle.rx_report.specs.Reports.{status_of};
 
-    /// The status of the program.
+    /// The status of the program, 5 to 10.
     pub fn status(self) -> u8
         ensures { result ≡ status_of self }
     {

@@ -1,4 +1,4 @@
-// The lines of refusals.
+//! The lines of refusals. A file has the name that the words of the command give it.
 ghost use Rattle.std.specs.Prelude.{◌≡◌, IfOk, Some, string_bytes};
 ghost use Rattle.rx_params.specs.declared.params.Params.{Params};
 ghost use Rattle.rx_report.specs.Reports.{too_long, malformed_text, not_accepted, malformed_binary, illegal_net, net_words, mismatch, wrong_width, damaged, wrong_input, wrong_workers, wide_board, cause_word, field_word};
@@ -77,7 +77,8 @@ fn field_word(field: u32) -> &'static str
     }
 }
 
-/// A binary file that has not its format, whose set is not accepted, or whose net is not legal.
+/// A binary file that has not its format, whose set is not accepted, or whose net is not legal. Want of memory is
+/// answered as such.
 pub fn malformed_binary(alloc: Global, name: &str, fault: CodecFault) -> Result<Refusal, AllocError>
     ensures { IfOk result (λ refusal. malformed_binary name.now fault ≡ Some refusal) }
 {
@@ -135,7 +136,7 @@ pub fn mismatch(alloc: Global, name: &str, difference: Difference) -> Result<Ref
     Ok(Refusal::new(Kind::Mismatch, line))
 }
 
-/// A number whose bits are no multiple of the message bits.
+/// A number of a value file whose bits are no multiple of the message bits.
 pub fn wrong_width(alloc: Global, name: &str, bits: u32) -> Result<Refusal, AllocError>
     ensures { IfOk result (λ refusal. refusal ≡ wrong_width name.now bits) }
 {
@@ -184,7 +185,7 @@ pub fn wrong_input(alloc: Global, fault: InputFault) -> Result<Refusal, AllocErr
     Ok(Refusal::new(Kind::Inputs, line))
 }
 
-/// A number of workers outside its limits.
+/// A number of workers outside its limits, 1 to 64.
 pub fn wrong_workers(alloc: Global, count: u64) -> Result<Refusal, AllocError>
     ensures { IfOk result (λ refusal. refusal ≡ wrong_workers count) }
 {
@@ -192,7 +193,7 @@ pub fn wrong_workers(alloc: Global, count: u64) -> Result<Refusal, AllocError>
     Ok(Refusal::new(Kind::Limit, line))
 }
 
-/// A net whose cells take more words than the limit of a run.
+/// A net whose board takes more words of 64 bits than the limit of a run.
 pub fn wide_board(alloc: Global, words: u64) -> Result<Refusal, AllocError>
     ensures { IfOk result (λ refusal. refusal ≡ wide_board words) }
 {

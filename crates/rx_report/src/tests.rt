@@ -1,4 +1,4 @@
-// The lines of refusals, each with its status.
+//! The lines of refusals, each with its status.
 use crate::{Refusal, malformed_binary, wide_board, wrong_input, wrong_workers};
 use rx_codec::CodecFault;
 use rx_net::NetFault;
