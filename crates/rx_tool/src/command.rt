@@ -1,4 +1,4 @@
-// The commands, and how words name them.
+//! The commands, and how words name them.
 ghost use Rattle.std.specs.Prelude.{◌≡◌, ◌∷◌, [], IfOk};
 ghost use Rattle.rx_tool.specs.Commands.{command_of, reads_of};
 ghost use Rattle.rx_tool.specs.Sources.{source_of, source_reads};
@@ -28,7 +28,7 @@ pub enum Source<'a> {
     File(Word<'a>),
 }
 
-/// A command with its words.
+/// A command with its words, in their order. `P` is a set's name or the name of a file; seeds have 32 bytes.
 #[derive(Drop)]
 pub enum Command<'a> {
     /// `check P`.
@@ -39,7 +39,7 @@ pub enum Command<'a> {
     Keygen(Word<'a>, [u8; 32], Word<'a>),
     /// `encrypt CLIENT MASKSEED NOISESEED VALUES OUT`.
     Encrypt(Word<'a>, [u8; 32], [u8; 32], Word<'a>, Word<'a>),
-    /// `run SERVER NET WORKERS OUT IN..`, with up to 64 names of inputs.
+    /// `run SERVER NET WORKERS OUT IN..`, with any number of workers and up to 64 names of inputs.
     Run(Word<'a>, Word<'a>, u64, Word<'a>, Names<'a>),
     /// `decrypt CLIENT IN`.
     Decrypt(Word<'a>, Word<'a>),

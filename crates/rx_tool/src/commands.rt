@@ -1,4 +1,6 @@
-// What each command makes of the files that it reads. No command touches the store or the sink.
+//! What each command makes of the files that it reads, which are those that `Command::reads` names, in its order. It
+//! stops at the first thing that refuses; a binary file is malformed for all that `malformed_binary` reports. No
+//! command touches the store or the sink.
 mod check;
 mod client;
 mod decrypt;

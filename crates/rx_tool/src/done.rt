@@ -1,4 +1,4 @@
-// What a command made: the files to write, in order, and the lines to print.
+//! What a command made: the files to write, in order, and the lines to print; or why it stopped before.
 ghost use Rattle.std.specs.Prelude.{◌≡◌, string_bytes};
 
 use rx_report::Refusal;
@@ -46,15 +46,20 @@ impl Output {
 /// What a command made.
 #[derive(Drop)]
 pub struct Done {
+    /// The files, in the order of writing.
     pub writes: Vec<Output>,
+    /// What is printed after the writes, each line with its line feed.
     pub lines: String,
 }
 
 /// Why a command did not come to its writes.
 #[derive(Drop)]
 pub enum Stop {
+    /// It is refused, and this is reported.
     Refused(Refusal),
+    /// A file is missing or was not read.
     Read,
+    /// Memory ran out.
     Memory,
 }
 

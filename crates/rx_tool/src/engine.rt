@@ -1,4 +1,4 @@
-// The parts of a run that know no command: the reads, the writes, the printing.
+//! The parts of a run that know no command: the reads, the writes, the printing.
 ghost use Rattle.std.specs.Prelude.{◌≡◌, ◌≤◌, IfOk, length};
 ghost use Rattle.rx_tool.specs.Got.{ReadsAll};
 ghost use Rattle.rx_tool.specs.Left.{WritesAll};
@@ -10,7 +10,8 @@ use rx_report::too_long;
 use rx_store::{ReadError, Store, WriteError};
 use std::alloc::Global;
 
-/// Reads the files of these names, in order.
+/// Reads the files of these names, in order, and stops at the first that is longer than `FILE_LIMIT`, which is refused,
+/// or that is missing or not read.
 pub fn read_all<S: Store>(
     alloc: Global,
     names: &[Word<'_>],
@@ -37,7 +38,7 @@ pub fn read_all<S: Store>(
     Ok(all)
 }
 
-/// Writes these files, in order.
+/// Writes these files, in order, and stops at the first that fails.
 pub fn write_all<S: Store>(writes: &[Output], store: &mut S) -> Result<(), WriteError>
     ensures leaves { WritesAll writes.now (S.files store.old) (S.files store.new) (S.write_faults store.old) (S.write_faults store.new) result }
     ensures reads { S.read_faults store.new ≡ S.read_faults store.old }

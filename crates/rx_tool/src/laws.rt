@@ -1,4 +1,4 @@
-// The law of the whole way, as a contract can name it.
+//! The law of the whole way, as a contract can name it.
 ghost use Rattle.rx_tool.specs.WholeWay.{WholeWayLaws};
 
 use rx_boot::server_key_laws;

@@ -1,4 +1,4 @@
-// Words of the command line, and the bytes of a file, which contracts see as lists of bytes.
+//! Words of the command line, and the bytes of a file, which contracts see as lists of bytes.
 ghost use Rattle.std.specs.Prelude.{◌≡◌};
 ghost use Rattle.rx_tool.specs.Words.{texts};
 

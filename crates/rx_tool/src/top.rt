@@ -1,4 +1,4 @@
-// The top call.
+//! The top call.
 ghost use Rattle.std.specs.Prelude.{◌≡◌, ◌⊎◌, length, Some, None, IsSomeAnd};
 ghost use Rattle.rx_store.specs.Counts.{Rose};
 ghost use Rattle.rx_report.specs.declared.refusal.Kind.{Kind};
@@ -26,9 +26,9 @@ use rx_store::{Sink, Store, WriteError};
 use std::alloc::Global;
 use std::thread::Threads;
 
-/// Runs the command that the words name. The status is 0 where it was done, 2 where the words are no
-/// command, 3 where a read failed, 4 where a write or the printing failed, 11 for want of memory, and
-/// else that of the refusal.
+/// Runs the command that the words after the program's name are. The status is 0 where it was done, 2 where the words
+/// are no command, 3 where a read failed, 4 where a write or the printing failed, 11 for want of memory, and else that
+/// of the refusal, 5 to 10. Source: `docs/FORMATS.md`, Reports.
 pub fn tool<R: Threads + Sync, S: Store, K: Sink, G: Gate + Sync>(
     rt: &R,
     alloc: Global,

@@ -1,4 +1,4 @@
-// check P: prints the worst-case sums of a set that is accepted.
+//! check P: prints the worst-case sums of a set that is accepted.
 ghost use Rattle.std.specs.Prelude.{◌≡◌, ◌++◌, IfOk, OnOk, length, string_bytes};
 ghost use Rattle.rx_tool.specs.Answers.{Answers};
 ghost use Rattle.rx_tool.specs.Check.{bound_line, bounds_lines};
@@ -12,7 +12,7 @@ use crate::text::Bytes;
 use rx_params::Bounds;
 use std::alloc::{AllocError, Global};
 
-/// Checks the set of a source.
+/// Checks the set of a source, as `accepted_set` does, and prints its sums.
 pub fn check_set(alloc: Global, source: &Source<'_>, files: &[Bytes]) -> Result<Done, Stop>
     requires { length files.now ≡ length (source_reads source.now) }
     ensures { Answers (Check source.now) files.now result }

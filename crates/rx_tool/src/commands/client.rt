@@ -1,4 +1,4 @@
-// client P SEED CLIENT: writes the client file of a set and a seed.
+//! client P SEED CLIENT: writes the client file of a set and a seed.
 ghost use Rattle.std.specs.Prelude.{◌≡◌, length};
 ghost use Rattle.rx_tool.specs.Answers.{Answers};
 ghost use Rattle.rx_tool.specs.Sources.{source_reads};
@@ -11,7 +11,7 @@ use crate::text::{Bytes, Word};
 use rx_codec::{Client, encode_client};
 use std::alloc::Global;
 
-/// Makes the client file of a set that is accepted.
+/// Makes the client file of a set that `accepted_set` gives.
 pub fn make_client(
     alloc: Global,
     source: &Source<'_>,

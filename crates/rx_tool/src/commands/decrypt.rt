@@ -1,4 +1,4 @@
-// decrypt CLIENT IN: prints the number of each item.
+//! decrypt CLIENT IN: prints the number of each item.
 ghost use Rattle.std.specs.Prelude.{◌≡◌, length};
 ghost use Rattle.rx_tool.specs.Answers.{Answers};
 ghost use Rattle.rx_tool.specs.declared.command.Command.TheVariants.{Decrypt};
@@ -12,7 +12,8 @@ use rx_lwe::SecretKey;
 use rx_report::{damaged, first_difference, malformed_binary, mismatch};
 use std::alloc::Global;
 
-/// Decrypts the items of a file of the client's set.
+/// Decrypts the items of a file of the client's set. It refuses, in this order, a malformed client file, a malformed
+/// ciphertext file, one of another set, and the first damaged block.
 pub fn decrypt_numbers(
     alloc: Global,
     client: &Word<'_>,

@@ -1,5 +1,5 @@
-// encrypt CLIENT MASKSEED NOISESEED VALUES OUT: writes the ciphertext file of the fresh blocks of all
-// numbers.
+//! encrypt CLIENT MASKSEED NOISESEED VALUES OUT: writes the ciphertext file of the fresh blocks of all
+//! numbers.
 ghost use Rattle.std.specs.Prelude.{◌≡◌, IfOk, None, length, map};
 ghost use Rattle.rx_params.specs.Acceptance.{Accepts};
 ghost use Rattle.rx_lwe.specs.Secret.{large_key};
@@ -21,7 +21,8 @@ use rx_lwe::SecretKey;
 use rx_report::{malformed_binary, malformed_text, wrong_width};
 use std::alloc::{AllocError, Global};
 
-/// Encrypts all lines of a value file.
+/// Encrypts all lines of a value file. It refuses, in this order, a malformed client file, a malformed value file, and
+/// the first line whose bits are no multiple of the message bits.
 pub fn encrypt_numbers(
     alloc: Global,
     client: &Word<'_>,

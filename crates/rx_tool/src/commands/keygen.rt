@@ -1,4 +1,4 @@
-// keygen CLIENT MASKSEED SERVER: writes the server file of a client's key.
+//! keygen CLIENT MASKSEED SERVER: writes the server file of a client's key.
 ghost use Rattle.std.specs.Prelude.{◌≡◌, length};
 ghost use Rattle.rx_tool.specs.Answers.{Answers};
 ghost use Rattle.rx_tool.specs.declared.command.Command.TheVariants.{Keygen};
@@ -11,7 +11,7 @@ use rx_codec::{decode_client, encode_server};
 use rx_report::malformed_binary;
 use std::alloc::Global;
 
-/// Makes the server key of a client.
+/// Makes the server file of a client. It refuses a malformed client file.
 pub fn make_server(
     alloc: Global,
     client: &Word<'_>,

@@ -1,4 +1,4 @@
-// What commands share: the set of a source, a stop for a refusal, one file to be written.
+//! What commands share: the set of a source, a stop for a refusal, one file to be written.
 ghost use Rattle.std.specs.Prelude.{◌≡◌, ◌∷◌, [], length, MatchResult, IfOk, string_bytes};
 ghost use Rattle.rx_params.specs.Derived.{bounds_of};
 ghost use Rattle.rx_params.specs.Acceptance.{Accepts};
@@ -23,7 +23,7 @@ pub fn stop_for(report: Result<Refusal, AllocError>) -> Stop
     }
 }
 
-/// A set of a source that is accepted, with its sums.
+/// A set of a source that is accepted, with its sums. It refuses a malformed text, and then the set.
 pub fn accepted_set(
     alloc: Global,
     source: &Source<'_>,

@@ -1,4 +1,4 @@
-// run SERVER NET WORKERS OUT IN..: evaluates a net over the items of ciphertext files, and writes its outputs.
+//! run SERVER NET WORKERS OUT IN..: evaluates a net over the items of ciphertext files, and writes its outputs.
 ghost use Rattle.std.specs.Prelude.{◌≡◌, ◌≤◌, ◌+◌, IfOk, length, string_bytes};
 ghost use Rattle.rx_net.specs.Named.{IsNet};
 ghost use Rattle.rx_codec.specs.CipherFile.{CipherFile};
@@ -29,7 +29,8 @@ struct Made {
     jobs: u32,
 }
 
-/// Runs a net under a server key over the inputs that some files hold.
+/// Runs a net under a server key over the inputs that some files hold. It refuses, in this order, a malformed server
+/// file, a malformed net file, the first malformed ciphertext file, and what `check_values` refuses.
 pub fn run_net_files<R: Threads + Sync, G: Gate + Sync>(
     rt: &R,
     alloc: Global,

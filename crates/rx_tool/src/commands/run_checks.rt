@@ -1,4 +1,4 @@
-// The tests of a run: whether its key, its net and its inputs go together, and whether it is within the limits.
+//! The tests of a run: whether its key, its net and its inputs go together, and whether it is within the limits.
 ghost use Rattle.std.specs.Prelude.{◌≡◌, ◌≤◌, ◌+◌, ◌*◌, None, length};
 ghost use Rattle.rx_params.specs.Acceptance.{Accepts};
 ghost use Rattle.rx_params.specs.Derived.{large_dim};
@@ -114,6 +114,5 @@ fn board_words(set: &Params, jobs: usize) -> u64
     requires jobs { jobs ≤ 65536 }
     ensures { result ≡ 1 + jobs * (large_dim set.now + 3) }
 {
-    let block = u64::from(set.glwe_dim) * u64::from(set.poly_size);
-    1 + jobs as u64 * (block + 3)
+    1 + jobs as u64 * (u64::from(set.large_dim()) + 3)
 }

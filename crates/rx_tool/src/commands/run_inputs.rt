@@ -1,4 +1,4 @@
-// The ciphertext files of a run.
+//! The ciphertext files of a run.
 ghost use Rattle.std.specs.Prelude.{◌≡◌, Ok, None, length};
 ghost use Rattle.rx_codec.specs.CipherFile.{CipherFile, cipher_from};
 ghost use Rattle.rx_tool.specs.Answers.{Yields};
@@ -12,7 +12,7 @@ use rx_codec::{Cipher, CodecFault, decode_cipher};
 use rx_report::malformed_binary;
 use std::alloc::Global;
 
-/// The ciphers of some files, each of the name at its place, in order.
+/// The ciphers of some files, each of the name at its place, in order. It refuses the first malformed file.
 pub fn read_ciphers(alloc: Global, names: &[String], files: &[Bytes]) -> Result<Vec<Cipher>, Stop>
     requires { length files.now ≡ length names.now }
     ensures { Yields (malformed_input (texts names.now) files.now)
