@@ -1,5 +1,5 @@
-// Makes the server key of a set and bootstraps one ciphertext as often as asked, each time the last output,
-// for `bench/bootstrap` to time: `rx_bootstraps SET COUNT`. Prints what the last output decrypts to.
+//! Makes the server key of a set and bootstraps one ciphertext as often as asked, each time the last output,
+//! for `bench/bootstrap` to time: `rx_bootstraps SET COUNT`. Prints what the last output decrypts to.
 #![tactic(auto)]
 
 ghost use Rattle.std.specs.Prelude.{◌≡◌, ◌+◌, ◌<◌, length};

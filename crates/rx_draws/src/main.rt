@@ -1,5 +1,5 @@
-// Draws as many random torus words as the first argument says, and prints their exclusive or. It is what the
-// words alone cost, for `bench/encrypt` to compare with.
+//! Draws as many random torus words as the first argument says, and prints their exclusive or. It is what the
+//! words alone cost, for `bench/encrypt` to compare with.
 #![tactic(auto)]
 
 use rand_chacha::ChaCha20Rng;

@@ -1,4 +1,4 @@
-// Stores that tell nothing of their files, and answer one thing.
+//! A store that tells nothing of its files, and answers one thing.
 ghost use Rattle.std.specs.Prelude.{None};
 
 use rx_store::{ReadError, Store, WriteError};

@@ -1,3 +1,4 @@
+//! The client's commands over files in memory: what they write and print, and what they refuse.
 use crate::balky::TooLongStore;
 use crate::texts::{small_bits, widths};
 use rx_examples_kit::{
@@ -5,7 +6,10 @@ use rx_examples_kit::{
     run, was_printed, word_at,
 };
 use rx_store::{MemSink, MemStore};
+use std::alloc::{AllocError, Global};
+use std::process::Abort;
 use std::test::Fail;
+use std::thread::Threads;
 
 /// The client file of `rx-test` with a seed of zeros.
 const CLIENT: [u8; 76] = [
@@ -14,9 +18,9 @@ const CLIENT: [u8; 76] = [
     0, 0, 0, 0, 0, 0, 0, 0, 0, 0, 0, 0, 0, 0, 0, 0, 0, 0, 0,
 ];
 
-#[test]
-fn sets_are_checked(rt: HostRuntime) -> Result<(), Fail> {
-    let alloc = rt.alloc();
+/// A store of parameter texts: `rx-2-2` with other numbers of small key bits, and three that are malformed. One file
+/// has the name of a set.
+fn set_files(alloc: Global) -> Result<MemStore, AllocError> {
     let mut store = no_files(alloc);
     store.insert("n26", small_bits(alloc, 26)?.as_bytes())?;
     store.insert("n27", small_bits(alloc, 27)?.as_bytes())?;
@@ -26,10 +30,40 @@ fn sets_are_checked(rt: HostRuntime) -> Result<(), Fail> {
     store.insert("cut", b"message_bits 2\nglwe_dim 1")?;
     store.insert("zero", b"message_bits 02\n")?;
     store.insert("big", b"message_bits 4294967296\n")?;
+    Ok(store)
+}
+
+#[test]
+fn words_that_are_no_command(rt: HostRuntime) -> Result<(), Fail> {
+    let mut store = set_files(rt.alloc())?;
     let cases = [
         ("", 2, "usage\n"),
         ("check", 2, "usage\n"),
         ("trip rx-test", 2, "usage\n"),
+        ("client rx-test 00 c", 2, "usage\n"),
+    ];
+    assert_eq!(rt; first_wrong(&rt, &mut store, &cases)?, None);
+    assert!(rt; store.get("c").is_none());
+    Ok(())
+}
+
+#[test]
+fn malformed_sets_are_reported(rt: HostRuntime) -> Result<(), Fail> {
+    let mut store = set_files(rt.alloc())?;
+    let cases = [
+        ("check cut", 5, "malformed cut line 2 form\n"),
+        ("check zero", 5, "malformed zero line 1 form\n"),
+        ("check big", 5, "malformed big line 1 number\n"),
+        ("check none", 3, ""),
+    ];
+    assert_eq!(rt; first_wrong(&rt, &mut store, &cases)?, None);
+    Ok(())
+}
+
+#[test]
+fn sets_are_checked(rt: HostRuntime) -> Result<(), Fail> {
+    let mut store = set_files(rt.alloc())?;
+    let cases = [
         (
             "check rx-2-2",
             0,
@@ -46,11 +80,6 @@ fn sets_are_checked(rt: HostRuntime) -> Result<(), Fail> {
             "refused noise 332310922590683136 288230376151711744\n",
         ),
         ("check n1025", 6, "refused limit lwe_dim 1025\n"),
-        ("check cut", 5, "malformed cut line 2 form\n"),
-        ("check zero", 5, "malformed zero line 1 form\n"),
-        ("check big", 5, "malformed big line 1 number\n"),
-        ("check none", 3, ""),
-        ("client rx-test 00 c", 2, "usage\n"),
         (
             "client n27 Z c",
             6,
@@ -66,10 +95,9 @@ fn sets_are_checked(rt: HostRuntime) -> Result<(), Fail> {
     Ok(())
 }
 
-#[test]
-fn numbers_are_encrypted_and_read(rt: HostRuntime) -> Result<(), Fail> {
-    let alloc = rt.alloc();
-    let mut store = no_files(alloc);
+/// A store with clients of `rx-test` and of `rx-k2`, value files, and the numbers of some under encryption.
+fn encrypted<R: Threads + Sync + AllocGlobal + Abort>(rt: &R) -> Result<MemStore, Fail> {
+    let mut store = no_files(rt.alloc());
     store.insert("v", b"int a 8 200\n")?;
     store.insert("w", b"int a 8 203\n")?;
     store.insert("odd", b"int a 8 1\nint b 9 1\n")?;
@@ -78,32 +106,44 @@ fn numbers_are_encrypted_and_read(rt: HostRuntime) -> Result<(), Fail> {
         "all",
         b"int a 2 3\nbit b 1 1\nint c 64 18446744073709551615\nbit d 1 0\nint e 6 41\n",
     )?;
-    let lines = [
-        "client rx-test Z c",
-        "client rx-k2 Z k",
-        "encrypt c U Z v out",
-        "encrypt c U Z w other",
-        "encrypt c U Z all many",
-        "encrypt k Z U all wide",
+    let cases = [
+        ("client rx-test Z c", 0, ""),
+        ("client rx-k2 Z k", 0, ""),
+        ("encrypt c U Z v out", 0, ""),
+        ("encrypt c U Z w other", 0, ""),
+        ("encrypt c U Z all many", 0, ""),
+        ("encrypt k Z U all wide", 0, ""),
     ];
-    for line in lines {
-        let (status, sink) = printed(&rt, line, &mut store)?;
-        assert_eq!(rt; status, 0, "{line}");
-        assert!(rt; was_printed(&sink, ""), "{line}");
-    }
+    assert_eq!(rt; first_wrong(rt, &mut store, &cases)?, None);
+    Ok(store)
+}
+
+#[test]
+fn numbers_are_encrypted_and_read(rt: HostRuntime) -> Result<(), Fail> {
+    let mut store = encrypted(&rt)?;
     assert!(rt; holds(&store, "c", &CLIENT));
     assert!(rt; has_length(&store, "out", 8284));
+    let many = "a 3\nb 1\nc 18446744073709551615\nd 0\ne 41\n";
+    let cases = [
+        ("decrypt c out", 0, "a 200\n"),
+        ("decrypt c many", 0, many),
+        ("decrypt k wide", 0, many),
+    ];
+    assert_eq!(rt; first_wrong(&rt, &mut store, &cases)?, None);
+    Ok(())
+}
+
+#[test]
+fn ciphertext_files_that_are_not_read(rt: HostRuntime) -> Result<(), Fail> {
+    let alloc = rt.alloc();
+    let mut store = encrypted(&rt)?;
     place_changed(alloc, &mut store, "out", "short", 8284, 0)?;
     place_longer(alloc, &mut store, "out", "long")?;
     place_changed(alloc, &mut store, "out", "magic", 3, b'2')?;
     place_changed(alloc, &mut store, "out", "items", 44, 65)?;
     place_changed(alloc, &mut store, "out", "bits", 51, 7)?;
     place_changed(alloc, &mut store, "other", "lowered", 52, 2)?;
-    let many = "a 3\nb 1\nc 18446744073709551615\nd 0\ne 41\n";
     let cases = [
-        ("decrypt c out", 0, "a 200\n"),
-        ("decrypt c many", 0, many),
-        ("decrypt k wide", 0, many),
         ("decrypt c short", 5, "malformed short short 8284 8283\n"),
         ("decrypt c long", 5, "malformed long long 1\n"),
         ("decrypt c magic", 5, "malformed magic magic\n"),
@@ -112,6 +152,15 @@ fn numbers_are_encrypted_and_read(rt: HostRuntime) -> Result<(), Fail> {
         ("decrypt c lowered", 9, "damaged a 0 3 2\n"),
         ("decrypt k out", 7, "mismatch out glwe_dim 2 1\n"),
         ("decrypt out c", 5, "malformed out magic\n"),
+    ];
+    assert_eq!(rt; first_wrong(&rt, &mut store, &cases)?, None);
+    Ok(())
+}
+
+#[test]
+fn numbers_that_are_not_encrypted(rt: HostRuntime) -> Result<(), Fail> {
+    let mut store = encrypted(&rt)?;
+    let cases = [
         ("encrypt c U Z odd x", 8, "inputs b width 9\n"),
         ("encrypt c U Z open x", 5, "malformed open line 1 form\n"),
         ("encrypt v U Z v x", 5, "malformed v magic\n"),

@@ -1,4 +1,4 @@
-// Texts that the examples read and print.
+//! Texts that the examples read and print.
 use std::alloc::{AllocError, Global};
 
 /// The parameter text of `rx-2-2` with another number of small key bits.
@@ -8,8 +8,9 @@ pub fn small_bits(alloc: Global, count: u32) -> Result<String, AllocError> {
     )
 }
 
-/// A line for each width that blocks of `step` bits make up, and then the bits 1 and 0: with the word `int` the
-/// lines of a value file, without it the lines that it is decrypted to. A number's bits are 1, 0, 1, 0 and so on.
+/// A line for each width that blocks of `step` bits make up, and then the bits 1 and 0: with `int i` before the width
+/// and a space between it and the bits, the lines of a value file; with `i` before and nothing between, the lines that
+/// it is decrypted to. The bits of each number alternate.
 pub fn widths(alloc: Global, step: u32, before: &str, between: &str) -> Result<String, AllocError> {
     let mut lines = String::new(alloc);
     for blocks in 1..33u32 {

@@ -1,4 +1,4 @@
-// Runs of small nets.
+//! Runs of small nets.
 ghost use Rattle.std.specs.Prelude.{◌≡◌, ℕ, ◌+◌, ◌<◌, ◌≤◌, [], IfOk, length};
 ghost use Rattle.rx_params.specs.declared.kind.Kind.TheVariants.{Int};
 ghost use Rattle.rx_params.specs.Acceptance.{FieldsInRange};

@@ -1,4 +1,4 @@
-// Files that are made of other files.
+//! Files that are made of other files. One that is not there counts as empty.
 use rx_store::MemStore;
 use std::alloc::{AllocError, Global};
 

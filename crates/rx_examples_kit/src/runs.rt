@@ -1,4 +1,4 @@
-// Runs of the program over files in memory.
+//! Runs of the program over files in memory.
 use rx_store::{MemSink, MemStore, Sink, Store};
 use rx_tool::{OpenGate, tool};
 use std::alloc::{AllocError, Global};
@@ -23,7 +23,7 @@ fn words_of(alloc: Global, line: &str) -> Result<Vec<String>, AllocError> {
     Ok(words)
 }
 
-/// The status of the words of a line.
+/// The status of the program for the words of a line, over a store and a sink.
 pub fn run<R: Threads + Sync + AllocGlobal, S: Store, K: Sink>(
     rt: &R,
     line: &str,
@@ -34,7 +34,7 @@ pub fn run<R: Threads + Sync + AllocGlobal, S: Store, K: Sink>(
     Ok(tool(rt, rt.alloc(), &words, store, sink, &OpenGate))
 }
 
-/// The status and what was printed, with no call that fails.
+/// The status and what was printed, to a sink that does not fail.
 pub fn printed<R: Threads + Sync + AllocGlobal>(
     rt: &R,
     line: &str,
@@ -89,7 +89,7 @@ pub fn was_printed(sink: &MemSink, text: &str) -> bool {
     sink.bytes() == text.as_bytes()
 }
 
-/// The word that stands at a place of a file, the least byte first; 0 where there is none.
+/// The word of eight bytes that stands at a place of a file, the least byte first; 0 where there is none.
 pub fn word_at(store: &MemStore, name: &str, place: usize) -> u64 {
     match store.get(name) {
         Some(held) if place < held.len() && held.len() - place >= 8 => {

@@ -1,4 +1,4 @@
-// A net whose sums gather all noise that a lookup may be given.
+//! A net whose sums gather all noise that a lookup may be given.
 ghost use Rattle.std.specs.Prelude.{IfOk};
 ghost use Rattle.rx_net.specs.Named.{IsNet};
 

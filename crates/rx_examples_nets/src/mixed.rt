@@ -1,4 +1,4 @@
-// A net of forty jobs of many forms, over any space.
+//! A net of forty jobs of many forms, over any space.
 ghost use Rattle.std.specs.Prelude.{◌≡◌, ◌⊎◌, IfOk};
 ghost use Rattle.rx_net.specs.Named.{IsNet};
 

@@ -1,5 +1,5 @@
-// What a net gives in the clear, worked out job by job: the texts of the numbers that it is given, and of those that
-// it gives.
+//! What a net gives in the clear, worked out job by job: the texts of the numbers that it is given, and of those that
+//! it gives.
 ghost use Rattle.std.specs.Prelude.{◌≡◌, ◌<◌, ◌≤◌, ◌⊎◌};
 ghost use Rattle.rx_net.specs.Named.{IsNet};
 

@@ -1,4 +1,4 @@
-// Tables over the numbers of a block.
+//! Tables over the numbers of a block.
 use std::alloc::{AllocError, Global};
 
 /// What a table gives for a number of a block, whose lower half are its message bits.
@@ -14,7 +14,7 @@ pub enum Look {
     Back,
 }
 
-/// The table of a space.
+/// The table of a space of 2 or 3: `4^space` entries.
 pub fn table(alloc: Global, space: u32, look: Look) -> Result<Vec<u8>, AllocError> {
     let base: u8 = if space == 2 { 4 } else { 8 };
     let mut entries = Vec::new(alloc);

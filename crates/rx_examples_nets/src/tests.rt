@@ -1,4 +1,4 @@
-// Nets that are evaluated under encryption and in the clear.
+//! Nets that are evaluated under encryption and in the clear.
 ghost use Rattle.std.specs.Prelude.{◌≡◌, ◌⊎◌};
 ghost use Rattle.rx_net.specs.Named.{IsNet};
 

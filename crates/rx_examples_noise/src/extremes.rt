@@ -1,4 +1,4 @@
-// Server keys whose noises all lie at one end of their bounds.
+//! Server keys whose noises all lie at one end of their bounds.
 ghost use Rattle.std.specs.Prelude.{◌≡◌, ◌+◌, ◌<◌, ◌≤◌, IfOk, length};
 ghost use Rattle.rx_params.specs.Acceptance.{FieldsInRange};
 ghost use Rattle.rx_lwe.specs.SwitchKeys.{switch_size};
@@ -12,7 +12,9 @@ use std::alloc::{AllocError, Global};
 /// The end of the bounds at which all noises lie.
 #[derive(Clone, Copy, Debug)]
 pub enum End {
+    /// All noises are `2^bound`.
     Most,
+    /// All noises are `-2^bound`.
     Least,
 }
 
@@ -27,7 +29,8 @@ impl End {
     }
 }
 
-/// The words of a server key, with each noise at this end: it has the masks and the secret of a key that was made.
+/// The words of a server key, with each noise at this end: it has the masks and the secret of a key that was made. The
+/// bootstrapping words come first, and then the switch words.
 pub fn extreme_words(
     alloc: Global,
     made: &ServerKey,

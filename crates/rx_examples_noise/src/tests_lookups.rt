@@ -1,4 +1,4 @@
-// Every number of a block, looked up in three tables.
+//! Every number of a block, looked up in three tables.
 ghost use Rattle.std.specs.Prelude.{◌≡◌, ◌<◌, length};
 ghost use Rattle.rx_params.specs.Derived.{large_dim};
 

@@ -1,4 +1,4 @@
-// Lookups where all noises lie at their bounds.
+//! Lookups where all noises lie at their bounds.
 ghost use Rattle.std.specs.Prelude.{◌≡◌, ◌+◌, IfOk, length};
 ghost use Rattle.rx_params.specs.Derived.{large_dim};
 

@@ -1,4 +1,4 @@
-// Small nets that the examples evaluate.
+//! Small nets that the examples evaluate.
 ghost use Rattle.std.specs.Prelude.{◌≡◌, ◌⊎◌, IfOk};
 ghost use Rattle.rx_net.specs.Named.{IsNet};
 

@@ -1,4 +1,4 @@
-// Nets evaluated through the whole program.
+//! Nets evaluated through the whole program.
 use crate::nets::{GIVEN_BACK, bare_net, given_net, sum_net};
 use rx_codec::encode_net;
 use rx_examples_kit::{first_wrong, has_length, no_files, place_changed, printed, was_printed};

@@ -1,4 +1,4 @@
-// Server keys, through the whole program.
+//! Server keys, through the whole program.
 use crate::nets::GIVEN_BACK;
 use rx_examples_kit::{
     first_wrong, has_length, no_files, place_changed, place_longer, place_start, printed,
