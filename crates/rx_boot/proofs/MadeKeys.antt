@@ -3,9 +3,7 @@ use Rattle.std.proofs.Common.{◌≡◌, ℕ, ℤ, ◌+◌, ◌*◌, ◌/◌, �
 use Rattle.std.specs.List.{range_with_len, flat_map}
 use Rattle.std.proofs.lemmas.List.FromFn.{get_or-map-range_with_len}
 use Rattle.std.proofs.lemmas.Nat.{div-add-mod', div_below, mod_below}
-use Rattle.rx_laws.specs.Torus.{word}
-use Rattle.rx_laws.specs.Words.{words_below}
-use Rattle.rx_laws.proofs.Torus.{word-lt}
+use Rattle.rx_laws.proofs.Words.{words_below-fit}
 use Rattle.rx_params.specs.declared.params.Params.{Params}
 use Rattle.rx_params.specs.Acceptance.{FieldsInRange, Accepts}
 use Rattle.rx_params.specs.Derived.{large_dim, key_words}
@@ -43,11 +41,6 @@ made_secret p seed = record {
 }
 
 -- ---- words below 2 ^ 64
-words_below-fit : (n : ℕ) (f : ℕ → ℤ) (u : ℕ) → u < n → get_or (words_below n f) u 0 < 2 ^ 64
-words_below-fit n f u q =
-    let here : get_or (words_below n f) u 0 ≡ word (f u) = get_or-map-range_with_len (λ i. word (f i)) 0 n u u 0 q (omega arith) in
-    omega (arith, here, word-lt (f u))
-
 rows-fit : (f : ℕ → List ℕ) (width n u : ℕ) → 0 < width → ((r : ℕ) → r < n → length (f r) ≡ width) →
     ((r i : ℕ) → i < width → get_or (f r) i 0 < 2 ^ 64) → u < n * width →
     get_or (flat_map f (range_with_len 0 n)) u 0 < 2 ^ 64

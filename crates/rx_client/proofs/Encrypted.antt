@@ -4,13 +4,9 @@ use Rattle.std.specs.List.{flat_map, AllByRecursion, range_with_len}
 use Rattle.std.specs.Str.{bytes_eq}
 use Rattle.std.proofs.lemmas.Bool.Decides.{nat_tests}
 use Rattle.std.proofs.lemmas.List.FromFn.{length-map-range_with_len}
-use Rattle.rx_laws.specs.Torus.{word}
-use Rattle.rx_laws.specs.Words.{of_words, AreWords}
-use Rattle.rx_laws.specs.Lwe.{lwe_hiding}
 use Rattle.rx_laws.specs.Decode.{unit}
-use Rattle.rx_laws.proofs.Torus.{word-lt}
-use Rattle.rx_laws.proofs.Words.{words_below-are}
-use Rattle.rx_torus.specs.Streams.{Draws, draw, stream_of, uniform}
+use Rattle.rx_laws.proofs.Words.{words_below-fit}
+use Rattle.rx_torus.specs.Streams.{Draws, stream_of}
 use Rattle.rx_torus.specs.Kinds.{stream_number}
 use Rattle.rx_torus.specs.declared.kind.StreamKind.TheVariants.{BlockMask, BlockNoise}
 use Rattle.rx_params.specs.declared.params.Params.{Params}
@@ -37,10 +33,7 @@ encrypted-words : (key : List ℕ) (mask noise : Draws) (bound message i : ℕ) 
     get_or (encrypted key mask noise bound message) i 0 < 2 ^ 64
 unfolding encrypted
 encrypted-words key mask noise bound message i low =
-    let f : ℕ → ℤ = lwe_hiding (length key) (of_words key) (λ i. pos (draw mask i)) (pos message) (uniform bound (draw noise 0)) in
-    let are : AreWords (length key + 1) f (encrypted key mask noise bound message) = words_below-are (length key + 1) f in
-    let e : get_or (encrypted key mask noise bound message) i 0 ≡ word (f i) = are.each i (omega (arith, are.count, low)) in
-    omega (arith, e, word-lt (f i))
+    words_below-fit (length key + 1) _ i (omega (arith, low, encrypted-length key mask noise bound message))
 
 fresh-fits : (p : Params) (key mask_seed noise_seed : List ℕ) (number : ℕ) (kind : Kind) (x : ℕ) → length key ≡ large_dim p →
     IsBlock p kind (fresh p key mask_seed noise_seed number kind x)

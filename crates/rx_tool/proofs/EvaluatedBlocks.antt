@@ -1,11 +1,9 @@
 -- The blocks of all cells of a net that was evaluated.
-use Rattle.std.proofs.Common.{◌≡◌, inl, inr, ℕ, ℤ, ◌+◌, ◌^◌, ◌<◌, ◌≤◌, List, [], ◌∷◌, ◌++◌, length, get_or, map, sym, subst, arith, length-append}
+use Rattle.std.proofs.Common.{◌≡◌, inl, inr, ℕ, ◌+◌, ◌^◌, ◌<◌, ◌≤◌, List, [], ◌∷◌, ◌++◌, length, get_or, map, sym, subst, arith, length-append}
 use Rattle.std.specs.Prelude.{EachIndex, slice_index}
 use Rattle.std.proofs.lemmas.Bool.{cases_lt}
 use Rattle.std.proofs.lemmas.List.{get_or_append_left}
-use Rattle.rx_laws.specs.Words.{words_below}
-use Rattle.rx_laws.proofs.Torus.{word-lt}
-use Rattle.rx_laws.proofs.Words.{words_below-are}
+use Rattle.rx_laws.proofs.Words.{words_below-are, words_below-fit}
 use Rattle.rx_params.specs.declared.params.Params.{Params}
 use Rattle.rx_params.specs.Derived.{large_dim, noise_limit}
 use Rattle.rx_net.specs.declared.net.Job.{Job}
@@ -44,14 +42,9 @@ length-job_words : (k : ServerWords) (job : Job) (operands : List ℕ) → lengt
 unfolding job_words bootstrapped
 length-job_words k job operands = (words_below-are _ _).count
 
-words_below-under : (n : ℕ) (f : ℕ → ℤ) → EachIndex (words_below n f) (λ i. slice_index (words_below n f) i < 2 ^ 64)
-words_below-under n f i low =
-    let are = words_below-are n f in
-    omega (arith, are.each i (omega (arith, low, are.count)), word-lt (f i))
-
 job_words-below : (k : ServerWords) (job : Job) (operands : List ℕ) → EachIndex (job_words (key_basis k) job operands) (λ i. slice_index (job_words (key_basis k) job operands) i < 2 ^ 64)
 unfolding job_words bootstrapped
-job_words-below k job operands = words_below-under _ _
+job_words-below k job operands i low = words_below-fit (large_dim k.params + 1) _ i (omega (arith, low, length-job_words k job operands))
 
 job_fits : (k : ServerWords) (job : Job) (cells : List Block) → IsBlockOf k.params (job_block k job cells)
 job_fits k job cells =
