@@ -1,25 +1,22 @@
 -- Fresh rows: their size, their words and their phase.
-use Rattle.std.proofs.Common.{◌≡◌, ℕ, suc, ℤ, pos, ◌+ℤ◌, ◌-ℤ◌, ◌+◌, ◌-◌, ◌*◌, ◌/◌, ◌%◌, ◌<◌, ◌≤◌, ◌^◌, refl, sym, ◌∙◌, ap, arith, List, length, get_or, ◌++◌, length-append, inl, inr, add-one, subst}
+use Rattle.std.proofs.Common.{◌≡◌, ℕ, ℤ, pos, ◌+ℤ◌, ◌+◌, ◌-◌, ◌*◌, ◌<◌, refl, sym, ◌∙◌, ap, arith, List, get_or, ◌++◌, length-append, inl, inr}
 use Rattle.std.proofs.Math.ListN.{get_or-append}
 use Rattle.std.proofs.lemmas.Bool.{cases_lt}
 use Rattle.std.proofs.lemmas.Int.{ints}
 use Rattle.std.proofs.lemmas.List.{get_or-append_right}
-use Rattle.std.proofs.lemmas.List.FromFn.{length-map-range_with_len}
 use Rattle.std.proofs.lemmas.Nat.{mul-add-lt}
 use Rattle.rx_laws.specs.Sum.{sum_to}
-use Rattle.rx_laws.specs.Torus.{word, distance}
+use Rattle.rx_laws.specs.Torus.{word}
 use Rattle.rx_laws.specs.Words.{of_words, AreWords}
 use Rattle.rx_laws.proofs.Torus.{word-add, word-word}
 use Rattle.rx_ring.specs.Polynomial.{product}
 use Rattle.rx_ring.specs.Parts.{of_parts, AreParts}
-use Rattle.rx_ring.specs.Glwe.{glwe_hiding, glwe_phase}
+use Rattle.rx_ring.specs.Glwe.{glwe_hiding}
 use Rattle.rx_ring.proofs.Congruence.{sum_to-word, product-word}
-use Rattle.rx_ring.proofs.Hiding.{glwe_hiding-mask, glwe_hiding-body, glwe_hiding-word, glwe_hiding_near}
+use Rattle.rx_ring.proofs.Hiding.{glwe_hiding-mask, glwe_hiding-body, glwe_hiding-word}
 use Rattle.rx_ring.proofs.Parts.{parts_below-are, are-parts_below, are-parts-word}
 use Rattle.rx_torus.specs.Streams.{Draws, draw, uniform}
-use Rattle.rx_lwe.proofs.Noises.{uniform-size}
 use Rattle.rx_params.specs.declared.params.Params.{Params}
-use Rattle.rx_glwe.specs.Sizes.{glwe_size}
 use Rattle.rx_glwe.specs.Rows.{glwe_row}
 use Rattle.rx_glwe.proofs.MaskProducts.{products_added}
 
@@ -46,11 +43,6 @@ unfolding glwe_row
 are-glwe_row p key mask noise hidden xs some are =
     are-parts_below p.poly_size (p.glwe_dim + 1) (row_numbers p key mask noise hidden) xs some are
 
-pub glwe_row-size : (p : Params) (key : List ℕ) (mask noise : Draws) (hidden : ℕ → ℤ) → length (glwe_row p key mask noise hidden) ≡ glwe_size p
-unfolding glwe_row
-glwe_row-size p key mask noise hidden =
-    length-map-range_with_len (λ u. word (row_numbers p key mask noise hidden (u / p.poly_size) (u % p.poly_size))) 0 (glwe_size p)
-
 -- a row depends on the words of what it hides alone
 pub glwe_row-words : (p : Params) (key : List ℕ) (mask noise : Draws) (f g : ℕ → ℤ) → 0 < p.poly_size →
     ((i : ℕ) → i < p.poly_size → word (f i) ≡ word (g i)) → glwe_row p key mask noise f ≡ glwe_row p key mask noise g
@@ -62,22 +54,6 @@ glwe_row-words p key mask noise f g some same =
     (λ q i r s. glwe_hiding-word n k (of_parts n key) (row_masks p mask) (row_masks p mask) f g (row_noises p noise) (row_noises p noise)
     (λ _ _ _ _. refl) same (λ _ _. refl) q i (omega arith) s)
     (glwe_row-are p key mask noise f some))
-
--- the phase of a row is within the bound of the noise of what it hides
-pub glwe_row-near : (p : Params) (key : List ℕ) (mask noise : Draws) (hidden : ℕ → ℤ) (i : ℕ) → i < p.poly_size →
-    distance (glwe_phase p.poly_size p.glwe_dim (of_parts p.poly_size key) (of_parts p.poly_size (glwe_row p key mask noise hidden)) i -ℤ hidden i)
-    ≤ 2 ^ p.glwe_bound
-glwe_row-near p key mask noise hidden i q =
-    let n : ℕ = p.poly_size in
-    let k : ℕ = p.glwe_dim in
-    let row : List ℕ = glwe_row p key mask noise hidden in
-    let are : AreParts n (suc k) (row_numbers p key mask noise hidden) row =
-    subst (λ (m : ℕ). AreParts n m (row_numbers p key mask noise hidden) row) (add-one k) (glwe_row-are p key mask noise hidden (omega arith)) in
-    omega (
-      arith,
-      glwe_hiding_near n k (of_parts n key) (row_masks p mask) hidden (row_noises p noise) row i q are,
-      uniform-size p.glwe_bound (draw noise i),
-    )
 
 -- ---- the masks as drawn and the body, one after the other, are the row
 -- the word of a body, from those of the noised polynomial and of the masks

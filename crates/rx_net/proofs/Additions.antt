@@ -287,10 +287,6 @@ module _ (net : Net) (l : Legal net) (ts : List Term) (k : ℤ) (table : List �
   unfolding degree
   degrees_lent = ap (λ is. λ (c : ℕ). get_or (degrees_after net.space is js) c 0) e ∙ ap (λ js. λ (c : ℕ). get_or (degrees_after net.space net.inputs js) c 0) f
 
-  pub noises_lent : (λ (c : ℕ). get_or (noises_after net.space is js) c 0) ≡ noise net
-  unfolding noise
-  noises_lent = ap (λ is. λ (c : ℕ). get_or (noises_after net.space is js) c 0) e ∙ ap (λ js. λ (c : ℕ). get_or (noises_after net.space net.inputs js) c 0) f
-
 module _ (net : Net) (l : Legal net) (o : NetOutput) (os : List NetOutput) (e : os ≡ net.outputs) where
   output_is : fault_of (with_output net o) ≡ option_or (limit (nat_lt (length os) 64) 6 (length os + 1)) (output_fault net.space (cell_count net) (degree net) os o)
   output_is = output_first net o l

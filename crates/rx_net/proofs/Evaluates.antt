@@ -13,7 +13,7 @@ use Rattle.rx_net.specs.Cells.{input_cells, given, laid, job_value, one_deeper, 
 use Rattle.rx_net.specs.Legal.{InTurn, IsJob, Legal}
 use Rattle.rx_net.proofs.Laid.{length-laid, laid-last}
 use Rattle.rx_net.proofs.Inputs.{length-given}
-use Rattle.rx_net.proofs.Sums.{sum_goes_on, sum_ends}
+use Rattle.rx_net.proofs.Sums.{sum_goes_on}
 use Rattle.rx_net.proofs.Faults.{turn_at}
 use Rattle.rx_net.proofs.Bounded.{greatest_at, LooksUp, looks_up, AreWithin, within_all, within_first}
 
@@ -32,16 +32,10 @@ sum_more value constant ts i sum h t p e w v w_is v_is a a_is low high next n = 
   most = omega (arith, ints, h.most);
 }
 
-pub sum_done : (value : ℕ → ℕ) (constant z : ℤ) (ts : List Term) (i : ℕ) (sum : ℤ) → IsSumUpTo value z ts i sum → z ≡ constant → length ts ≤ i → sum ≡ value_of value constant ts
-sum_done value constant z ts i sum h e p = sym (sum_ends (λ t. t.weight *ℤ pos (value t.cell)) sum ts i p) ∙ h.sum_is ∙ ap (λ k. value_of value k ts) e
-
 -- ---- the greatest depth of terms
 pub record IsDeepestUpTo (depths : List ℕ) (ts : List Term) (i most : ℕ) : Type 0 where
   pub most_is : max most (greatest_of (map (λ t. get_or depths t.cell 0) (drop i ts))) ≡ greatest_of (map (λ t. get_or depths t.cell 0) ts)
   pub within : most ≤ greatest_of depths
-
-pub deepest_begins : (depths : List ℕ) (ts : List Term) → IsDeepestUpTo depths ts 0 0
-deepest_begins depths ts = record { most_is = omega arith; within = omega arith }
 
 pub deepest_more : (depths : List ℕ) (ts : List Term) (i most : ℕ) → IsDeepestUpTo depths ts i most → (t : Term) → i < length ts → t ≡ get_or ts i t → t.cell < length depths
     → (next : ℕ) → next ≡ max most (get_or depths t.cell 0) → IsDeepestUpTo depths ts (i + 1) next

@@ -1,9 +1,8 @@
 -- First faults: how they are found in turn, and what holds where there is none.
-use Rattle.std.proofs.Common.{◌≡◌, ℕ, zero, suc, ◌+◌, ◌<◌, ◌≤◌, List, [], ◌∷◌, ◌++◌, length, get_or, take, drop, Bool, true, false, refl, sym, ◌∙◌, ap, arith, subst, drop-cons, add-one, append_assoc, append-nil, Option, Some, None, Result, Err}
+use Rattle.std.proofs.Common.{◌≡◌, ℕ, zero, suc, ◌<◌, List, [], ◌∷◌, ◌++◌, length, get_or, take, Bool, true, false, refl, sym, ◌∙◌, ap, arith, subst, append_assoc, append-nil, Option, Some, None, Result, Err}
 use Rattle.std.specs.Prelude.{◌&&◌}
 use Rattle.std.specs.List.{list_all, AllByRecursion}
 use Rattle.std.proofs.lemmas.Bool.{and_parts}
-use Rattle.std.proofs.lemmas.List.{drop_all, take_more}
 use Rattle.std.specs.Option.{option_or}
 use Rattle.rx_net.specs.declared.fault.NetFault.{NetFault}
 use Rattle.rx_net.specs.Legal.{InTurn}
@@ -36,27 +35,6 @@ of_last (Some f) = refl
 
 -- ---- in turn
 module _ {A : Type 0} (fault : List A → A → Option NetFault) where
-  pub turn_next : (xs : List A) (i : ℕ) (x : A) → i < length xs → x ≡ get_or xs i x
-      → first_in_turn fault (take i xs) (drop i xs) ≡ option_or (fault (take i xs) x) (first_in_turn fault (take (i + 1) xs) (drop (i + 1) xs))
-  turn_next xs i x p e =
-      let d : drop i xs ≡ get_or xs i x ∷ drop (suc i) xs = drop-cons xs i x p in
-      let d' : drop i xs ≡ x ∷ drop (i + 1) xs = rw add-one (d ∙ ap (λ y. y ∷ drop (suc i) xs) (sym e)) in
-      let t : take (i + 1) xs ≡ take i xs ++ x ∷ [] = take_more xs i x p ∙ ap (λ y. take i xs ++ y ∷ []) (sym e) in
-      ap (first_in_turn fault (take i xs)) d' ∙ ap (λ ys. option_or (fault (take i xs) x) (first_in_turn fault ys (drop (i + 1) xs))) (sym t)
-
-  pub turn_goes_on : (xs : List A) (i : ℕ) (x : A) → i < length xs → x ≡ get_or xs i x → fault (take i xs) x ≡ None
-      → (r : Option NetFault) → first_in_turn fault (take i xs) (drop i xs) ≡ r → first_in_turn fault (take (i + 1) xs) (drop (i + 1) xs) ≡ r
-  turn_goes_on xs i x p e n r h =
-      sym (turn_next xs i x p e ∙ of_none (fault (take i xs) x) (first_in_turn fault (take (i + 1) xs) (drop (i + 1) xs)) n) ∙ h
-
-  pub turn_stops : (xs : List A) (i : ℕ) (x : A) → i < length xs → x ≡ get_or xs i x → (f : NetFault) → fault (take i xs) x ≡ Some f
-      → (r : Option NetFault) → first_in_turn fault (take i xs) (drop i xs) ≡ r → r ≡ Some f
-  turn_stops xs i x p e f n r h =
-      sym h ∙ turn_next xs i x p e ∙ of_some (fault (take i xs) x) (first_in_turn fault (take (i + 1) xs) (drop (i + 1) xs)) f n
-
-  pub turn_ends : (xs : List A) (i : ℕ) → length xs ≤ i → (r : Option NetFault) → first_in_turn fault (take i xs) (drop i xs) ≡ r → r ≡ None
-  turn_ends xs i p r h = sym h ∙ ap (first_in_turn fault (take i xs)) (drop_all i xs p)
-
   -- one element more at the end
   pub turn_last : (before xs : List A) (x : A) → first_in_turn fault before xs ≡ None → first_in_turn fault before (xs ++ x ∷ []) ≡ fault (before ++ xs) x
   turn_last before [] x h = of_last (fault before x) ∙ ap (λ ys. fault ys x) (sym (append-nil before))

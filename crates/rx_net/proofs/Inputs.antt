@@ -42,9 +42,6 @@ pub record IsLeft (space : ℕ) (is : List NetInput) (cell k left : ℕ) : Type 
   pub place : cell + input_cells space (drop k is) ≡ left + input_cells space is
   pub same : (number : NetInput → ℕ) → get_or (given space number is) cell 0 ≡ get_or (given space number (drop k is)) left 0
 
-pub left_begins : (space : ℕ) (is : List NetInput) (cell : ℕ) → IsLeft space is cell 0 cell
-left_begins space is cell = record { place = refl; same = λ number. refl }
-
 pub left_goes_on : (space : ℕ) (is : List NetInput) (cell k left : ℕ) (i : NetInput) → IsLeft space is cell k left → k < length is → i ≡ get_or is k i
     → block_count i.kind space i.bits ≤ left → IsLeft space is cell (k + 1) (left - block_count i.kind space i.bits)
 left_goes_on space is cell k left i h p e l = record {

@@ -29,9 +29,6 @@ noise_goes_on noise ts i t p e =
     let d : drop i ts ≡ get_or ts i t ∷ drop (suc i) ts = drop-cons ts i t p in
     rw add-one (ap (noise_of noise) (d ∙ ap (λ x. x ∷ drop (suc i) ts) (sym e)))
 
-pub noise_ends : (noise : ℕ → ℕ) (ts : List Term) (i : ℕ) → length ts ≤ i → noise_of noise (drop i ts) ≡ 0
-noise_ends noise ts i p = ap (noise_of noise) (drop_all i ts p)
-
 pub at_place : {A : Type 0} (P : A → Type 0) (xs : List A) (i : ℕ) (x : A) → AllByRecursion P xs → i < length xs → x ≡ get_or xs i x → P x
 at_place P xs i x h p e = subst P (sym e) (All-from_recursion P xs h i x p)
 

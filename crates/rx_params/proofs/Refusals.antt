@@ -1,5 +1,5 @@
 -- A set is accepted exactly where nothing refuses it, and what refuses it where it is not.
-use Rattle.std.proofs.Common.{lit≤, ℕ, ◌≡◌, ◌<◌, ◌≤◌, ◌+◌, ◌*◌, ◌^◌, ◌⊎◌, ◌↔◌, ◌==◌, nat_le, nat_lt, ◌&&◌, ◌||◌, Bool, true, false, List, ◌∷◌, drop, Option, Some, None, Ok, Err, if◌then◌else◌, refl, ◌∙◌, ap, inl, inr, arith}
+use Rattle.std.proofs.Common.{lit≤, ℕ, ◌≡◌, ◌<◌, ◌≤◌, ◌+◌, ◌*◌, ◌^◌, ◌⊎◌, ◌==◌, nat_le, nat_lt, ◌&&◌, ◌||◌, Bool, true, false, List, ◌∷◌, drop, Option, Some, None, Ok, Err, if◌then◌else◌, refl, ◌∙◌, ap, inl, inr, arith}
 use Rattle.std.proofs.lemmas.Bool.Decides.{nat_tests}
 use Rattle.std.specs.Option.{option_or}
 use Rattle.rx_laws.specs.Decode.{plaintexts}
@@ -256,10 +256,6 @@ refusal_of-accepts p h =
       wide = at_most-is (2 * plaintexts p.message_bits) p.poly_size (none-unless (nat_le (2 * plaintexts p.message_bits) p.poly_size) (NarrowBox p.poly_size (plaintexts p.message_bits)) b.0);
       below = below-is (left_of p) (right_of p) (none-unless (nat_lt (left_of p) (right_of p)) (Noise (left_of p) (right_of p)) b.1);
     }
-
--- a set is accepted exactly where nothing refuses it
-pub accepted-unrefused : (p : Params) → (refusal_of p ≡ None) ↔ Accepts p
-accepted-unrefused p = (refusal_of-accepts p, accepts-refusal_of p)
 
 pub checked-accepted : (p : Params) → Accepts p → checked p ≡ Ok (bounds_of p)
 checked-accepted p a = ap (λ r. answered r (bounds_of p)) (accepts-refusal_of p a)

@@ -14,14 +14,6 @@ poly_size-high p f =
     let e : p.poly_size ≡ 2 ^ log = f.poly_size.2 in
     omega arith
 
-pub poly_size-low : (p : Params) → FieldsInRange p → 64 ≤ p.poly_size
-poly_size-low p f =
-    let log : ℕ = f.poly_size.0 in
-    let above : 6 ≤ log = f.poly_size.1.0 in
-    let h : 2 ^ 6 ≤ 2 ^ log = pow_mono above in
-    let e : p.poly_size ≡ 2 ^ log = f.poly_size.2 in
-    omega arith
-
 pub large_dim-high : (p : Params) → FieldsInRange p → p.glwe_dim * p.poly_size ≤ 2 ^ 14
 large_dim-high p f = mul-le-mul f.glwe_dim.1 (poly_size-high p f)
 

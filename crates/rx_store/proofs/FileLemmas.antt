@@ -1,10 +1,10 @@
 -- Files after one of them is put, and the entries of an ordered map of texts as files.
-use Rattle.std.proofs.Common.{◌≡◌, ◌≢◌, ℕ, List, [], ◌∷◌, true, false, cond, refl, sym, ap, ◌∙◌, map, Some, String, Vec}
+use Rattle.std.proofs.Common.{◌≡◌, ℕ, List, [], ◌∷◌, true, false, cond, refl, sym, ap, ◌∙◌, map, Some, String, Vec}
 use Rattle.std.specs.Option.{option_map}
 use Rattle.std.specs.Map.{lookup}
 use Rattle.std.specs.BTreeMap.{insert_entry, is_at}
 use Rattle.std.specs.String.{string_bytes, string_cmp}
-use Rattle.std.specs.Ordering.{nat_cmp, eq_by_cmp, is_eq, match_ordering}
+use Rattle.std.specs.Ordering.{nat_cmp, eq_by_cmp, match_ordering}
 use Rattle.std.specs.declared.cmp.Ordering.TheVariants.{Less, Equal, Greater}
 use Rattle.std.specs.declared.alloc.Global.{Global}
 use Rattle.std.specs.Cmp.{eq_by_cmp_equiv}
@@ -58,12 +58,3 @@ pub file_at-with_file : (name bytes : List ℕ) (files : Files) → file_at (wit
 file_at-with_file name bytes files =
     get-insert nat_list_cmp_total files name bytes name
     ∙ ap (λ same. cond same (Some bytes) (file_at files name)) ((eq_by_cmp_equiv nat_list_cmp_total).refl name)
-
--- each other file is as before
-pub file_at-with_file_other : (name bytes : List ℕ) (files : Files) (other : List ℕ) → other ≢ name →
-    file_at (with_file name bytes files) other ≡ file_at files other
-file_at-with_file_other name bytes files other different =
-    get-insert nat_list_cmp_total files name bytes other
-    ∙ elim (slice_cmp nat_cmp other name)
-    as (λ r. slice_cmp nat_cmp other name ≡ r → cond (is_eq r) (Some bytes) (file_at files other) ≡ file_at files other)
-    [ Less ↦ λ e. refl | Equal ↦ λ e. absurd (different (slice_cmp-IsAntisymmetric nat_cmp-IsAntisymmetric other name e)) | Greater ↦ λ e. refl ] refl
