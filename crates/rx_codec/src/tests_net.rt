@@ -1,4 +1,5 @@
 //! Net files, byte by byte.
+use crate::tests::changed;
 use crate::{CodecFault, decode_net, encode_net};
 use rx_net::{NetFault, NetInput, NetPen};
 use rx_params::{Kind, Name};
@@ -16,16 +17,6 @@ static LESS: [u8; 52] = [
     b'R', b'X', b'N', b'1', 2, 1, 0, 1, b'a', 0, 2, 3, 1, 1, 0, 0, 0, 1, 0, 0, 0, 0, 255, 3, 0, 0,
     1, 2, 3, 0, 0, 0, 0, 0, 0, 0, 0, 0, 0, 0, 0, 3, 1, 0, 1, b'a', 0, 2, 1, 0, 0, 0,
 ];
-
-fn changed(alloc: Global, file: &[u8], changes: &[(usize, u8)]) -> Result<Vec<u8>, AllocError> {
-    let mut file = Vec::from_slice(alloc, file)?;
-    for (at, value) in changes {
-        if let Some(byte) = file.get_mut(*at) {
-            *byte = *value;
-        }
-    }
-    Ok(file)
-}
 
 #[test]
 fn nets_read_and_written(rt: HostRuntime) -> Result<(), Fail> {
@@ -69,23 +60,28 @@ fn a_net_of_a_pen(rt: HostRuntime) -> Result<(), Fail> {
     Ok(())
 }
 
-#[test]
-fn lengths_of_nets(rt: HostRuntime) -> Result<(), Fail> {
-    let needs: [u64; 27] = [
-        4, 4, 4, 4, 5, 7, 7, 8, 9, 10, 11, 12, 13, 17, 17, 17, 17, 19, 19, 20, 21, 22, 23, 27, 27,
-        27, 27,
-    ];
+/// The first length at which `SAME` is not short of the length at that place.
+fn first_net_length(alloc: Global, needs: &[u64]) -> Option<usize> {
     for (len, need) in needs.iter().enumerate() {
         let fault = CodecFault::Short {
             need: *need,
             have: len as u64,
         };
-        assert_eq!(rt;
-            decode_net(rt.alloc(), &SAME[..len]).err(),
-            Some(fault),
-            "of {len} bytes"
-        );
+        let start = &SAME[..len.min(SAME.len())];
+        if decode_net(alloc, start).err() != Some(fault) {
+            return Some(len);
+        }
     }
+    None
+}
+
+#[test]
+fn lengths_of_nets(rt: HostRuntime) -> Result<(), Fail> {
+    let needs = [
+        4, 4, 4, 4, 5, 7, 7, 8, 9, 10, 11, 12, 13, 17, 17, 17, 17, 19, 19, 20, 21, 22, 23, 27, 27,
+        27, 27,
+    ];
+    assert_eq!(rt; first_net_length(rt.alloc(), &needs), None);
     // Another net's fault comes after the bytes that are too many.
     let mut long = changed(rt.alloc(), &SAME, &[(23, 1)])?;
     long.push(0)?;
@@ -157,6 +153,20 @@ fn too_many_jobs_and_a_name_twice(rt: HostRuntime) -> Result<(), Fail> {
     Ok(())
 }
 
+/// The first of these changes of `LESS` that is not reported as the fault beside it.
+fn first_other_fault(
+    alloc: Global,
+    cases: &[(usize, u8, NetFault)],
+) -> Result<Option<(usize, u8)>, AllocError> {
+    for (at, value, fault) in cases {
+        let file = changed(alloc, &LESS, &[(*at, *value)])?;
+        if decode_net(alloc, file.as_slice()).err() != Some(CodecFault::Net(*fault)) {
+            return Ok(Some((*at, *value)));
+        }
+    }
+    Ok(None)
+}
+
 #[test]
 fn nets_that_are_not_legal(rt: HostRuntime) -> Result<(), Fail> {
     let noisy = changed(rt.alloc(), &LESS, &[(12, 3), (22, 254), (23, 6)])?;
@@ -175,19 +185,13 @@ fn nets_that_are_not_legal(rt: HostRuntime) -> Result<(), Fail> {
         declared: 2,
         reached: 3,
     };
-    for (at, value, fault) in [
+    let cases = [
         (18, 1, NetFault::Forward { job: 0 }),
         (23, 2, range),
         (25, 16, NetFault::Table { job: 0 }),
         (41, 2, degree),
         (48, 2, NetFault::Output { index: 0 }),
-    ] {
-        let file = changed(rt.alloc(), &LESS, &[(at, value)])?;
-        assert_eq!(rt;
-            decode_net(rt.alloc(), file.as_slice()).err(),
-            Some(CodecFault::Net(fault)),
-            "{value} at {at}"
-        );
-    }
+    ];
+    assert_eq!(rt; first_other_fault(rt.alloc(), &cases)?, None);
     Ok(())
 }

@@ -42,10 +42,25 @@ fn a_server_key(rt: HostRuntime) -> Result<(), Fail> {
     Ok(())
 }
 
+/// The first length at which the server file is not refused for the fault beside it.
+fn first_server_length(
+    alloc: Global,
+    file: &[u8],
+    cases: &[(usize, CodecFault)],
+) -> Result<Option<usize>, AllocError> {
+    for (len, fault) in cases {
+        let cut = cut(alloc, file, *len)?;
+        if decode_server(alloc, cut.as_slice()).err() != Some(*fault) {
+            return Ok(Some(*len));
+        }
+    }
+    Ok(None)
+}
+
 #[test]
 fn server_faults(rt: HostRuntime) -> Result<(), Fail> {
     let file = server_file(rt.alloc())?;
-    for (len, fault) in [
+    let cases = [
         (0, CodecFault::Short { need: 4, have: 0 }),
         (4, CodecFault::Short { need: 8, have: 4 }),
         (43, CodecFault::Short { need: 44, have: 43 }),
@@ -64,20 +79,20 @@ fn server_faults(rt: HostRuntime) -> Result<(), Fail> {
             },
         ),
         (241709, CodecFault::Long { extra: 1 }),
-    ] {
-        let cut = cut(rt.alloc(), file.as_slice(), len)?;
-        let found = decode_server(rt.alloc(), cut.as_slice()).err();
-        assert_eq!(rt; found, Some(fault), "of {len} bytes");
-    }
-    let narrow = changed(rt.alloc(), server_head(rt.alloc())?.as_slice(), 13, 0)?;
-    let narrow = changed(rt.alloc(), narrow.as_slice(), 12, 100)?;
+    ];
+    assert_eq!(rt;
+        first_server_length(rt.alloc(), file.as_slice(), &cases)?,
+        None
+    );
+    let head = server_head(rt.alloc())?;
+    let narrow = changed(rt.alloc(), head.as_slice(), &[(13, 0), (12, 100)])?;
     let refused = Refused::Limit {
         field: 3,
         value: 100,
     };
     let found = decode_server(rt.alloc(), narrow.as_slice()).err();
     assert_eq!(rt; found, Some(CodecFault::Params(refused)));
-    let other = changed(rt.alloc(), file.as_slice(), 2, b'C')?;
+    let other = changed(rt.alloc(), file.as_slice(), &[(2, b'C')])?;
     let found = decode_server(rt.alloc(), other.as_slice()).err();
     assert_eq!(rt; found, Some(CodecFault::Magic));
     Ok(())
