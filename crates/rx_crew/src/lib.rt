@@ -4,9 +4,9 @@
 
 mod blocks;
 mod gate;
+mod jobs;
 mod kernel;
 mod laws;
-mod order;
 mod run;
 
 pub use gate::{Gate, OpenGate};

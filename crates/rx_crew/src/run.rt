@@ -9,8 +9,8 @@ ghost use Rattle.rx_crew.specs.Noise.{KeepsCells, KeepsOutputs};
 
 use crate::Gate;
 use crate::blocks::{copy_blocks, copy_numbered, zero_blocks};
+use crate::jobs::run_jobs;
 use crate::laws::cells_keep;
-use crate::order::run_jobs;
 use rx_block::Block;
 use rx_boot::{BootScratch, ServerKey};
 use rx_net::{Net, NetOutput};

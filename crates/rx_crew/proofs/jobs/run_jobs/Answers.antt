@@ -10,7 +10,7 @@ use Rattle.rx_crew.proofs.Operands.{cells-of}
 use Rattle.rx_crew.proofs.Laying.{job-lawful, laid-more, laid-all}
 use Rattle.rx_crew.proofs.Basis.{length-job_block}
 use Rattle.rx_crew.proofs.Placed.{are-set}
-use Rattle.rx_crew.proofs.order.run_jobs.Goals as goal
+use Rattle.rx_crew.proofs.jobs.run_jobs.Goals as goal
 
 pub loop-number-init : goal.loop-number-init
 unfolding laid

@@ -5,7 +5,7 @@ use Rattle.rx_block.specs.declared.block.Block.{Block}
 use Rattle.rx_crew.specs.Evaluation.{job_block}
 use Rattle.rx_crew.proofs.Basis.{job_block-made}
 use Rattle.rx_crew.proofs.Placed.{are-take, set-after}
-use Rattle.rx_crew.proofs.order.run_job.Goals as goal
+use Rattle.rx_crew.proofs.jobs.run_job.Goals as goal
 
 pub returns-clause-cells : goal.returns-clause-cells
 returns-clause-cells c =

@@ -2,7 +2,7 @@ use Rattle.std.proofs.Common.{◌≡◌, ◌+◌, take}
 use Rattle.rx_net.specs.Cells.{laid}
 use Rattle.rx_block.specs.Combine.{AreBlocksOf}
 use Rattle.rx_crew.specs.Evaluation.{job_block}
-use Rattle.rx_crew.proofs.order.run_jobs.Given as goal
+use Rattle.rx_crew.proofs.jobs.run_jobs.Given as goal
 
 abbrev pub invariant-loop-number : goal.invariant-loop-number
 invariant-loop-number l = record {
