@@ -12,10 +12,10 @@ use Rattle.rx_report.specs.Reports.{status_of, usage_line}
 use Rattle.rx_tool.specs.Commands.{command_refusal}
 use Rattle.rx_tool.specs.Got.{Got, whole, long, missing, got, refuses, as_report, DoesAll}
 use Rattle.rx_tool.specs.Left.{Prints}
-use Rattle.rx_tool.specs.Ran.{World, Untouched, Finished, Stopped, Ran, refused, unread, no_memory, stopped, out_of_memory, finished}
+use Rattle.rx_tool.specs.Ran.{World, Untouched, Finished, Stopped, RanOut, Ran, refused, unread, no_memory, stopped, out_of_memory, finished}
 use Rattle.rx_tool.proofs.GotLemmas.{one_told}
 use Rattle.rx_tool.proofs.KeptFiles.{kept_passes}
-use Rattle.rx_tool.specs.Told.{IsRefusal, RefusedBy, Refuses, SaysSo, Faultless, DoneBy, StoppedBy, FailedAt, LeftAlone, Complete, Absent, DecryptsKept, NeverDamaged}
+use Rattle.rx_tool.specs.Told.{IsRefusal, RefusedBy, Refuses, SaysSo, Faultless, DoneBy, ShortOfMemory, FailedAt, LeftAlone, Complete, Absent, DecryptsKept, NeverDamaged}
 
 same_status : (a b : ℕ) (l m : List ℕ) → ◌≡◌ {A = Option (ℕ × List ℕ)} (Some (a, l)) (Some (b, m)) → a ≡ b
 same_status a b l m e = ap (λ o. (unwrap_or {T = ℕ × List ℕ} o (a, l)).0) e
@@ -100,17 +100,13 @@ known_status (Some command) (whole files) status line e = inr (kind_of (command_
 known_status (Some command) (long name size) status line e = inr (Limit, sym (same_status _ _ _ _ e))
 known_status (Some command) missing status line e = absurd (cc)
 
-if_stopped : {command : Option Command} {now : Option Files} {printed printed_now : Option (List ℕ)} (files : Option Files) (given : Got) → IfSome files (λ f. got command f ≡ given) → Stopped command given files now printed printed_now → StoppedBy command files now printed printed_now
-if_stopped None given is stop = tt
-if_stopped {command} {now} {printed} {printed_now} (Some f) given is stop = inr (subst (λ g. Stopped command g (Some f) now printed printed_now) (sym is) stop)
-
 module _ {command : Option Command} {before after : World} where
   pub usage : {status : ℕ} → Ran command before after status → status ≡ 2 → command ≡ None
   usage (refused given status line is refuse same prints) two = no_command command given status line refuse two
   usage (unread has alone why) two = absurd (omega arith)
   usage (no_memory alone) two = absurd (omega arith)
   usage (stopped given is accept stop why) two = absurd (omega arith)
-  usage (out_of_memory given is accept stop) two = absurd (omega arith)
+  usage (out_of_memory given is accept out) two = absurd (omega arith)
   usage (finished given is accept done) two = absurd (omega arith)
 
   pub no_usage : {status : ℕ} → Ran command before after status → command ≡ None → (status ≡ 2) ⊎ (status ≡ 11)
@@ -120,7 +116,7 @@ module _ {command : Option Command} {before after : World} where
   no_usage (no_memory alone) none = inr refl
   no_usage (stopped given is accept stop why) none =
       let refuse : refuses None given ≡ None = subst (λ c. refuses c given ≡ None) none accept in absurd (cc)
-  no_usage (out_of_memory given is accept stop) none = inr refl
+  no_usage (out_of_memory given is accept out) none = inr refl
   no_usage (finished given is accept done) none =
       let refuse : refuses None given ≡ None = subst (λ c. refuses c given ≡ None) none accept in absurd (cc)
 
@@ -129,7 +125,7 @@ module _ {command : Option Command} {before after : World} where
   read_cause (unread has alone why) three = why
   read_cause (no_memory alone) three = absurd (omega arith)
   read_cause (stopped given is accept stop why) three = absurd (omega arith)
-  read_cause (out_of_memory given is accept stop) three = absurd (omega arith)
+  read_cause (out_of_memory given is accept out) three = absurd (omega arith)
   read_cause (finished given is accept done) three = absurd (omega arith)
 
   pub write_cause : {status : ℕ} → Ran command before after status → status ≡ 4 → Rose before.write_faults after.write_faults ⊎ Rose before.print_faults after.print_faults
@@ -137,7 +133,7 @@ module _ {command : Option Command} {before after : World} where
   write_cause (unread has alone why) four = absurd (omega arith)
   write_cause (no_memory alone) four = absurd (omega arith)
   write_cause (stopped given is accept stop why) four = why
-  write_cause (out_of_memory given is accept stop) four = absurd (omega arith)
+  write_cause (out_of_memory given is accept out) four = absurd (omega arith)
   write_cause (finished given is accept done) four = absurd (omega arith)
 
   pub refused_by : {status : ℕ} → Ran command before after status → IsRefusal status → RefusedBy command before.files status before.printed before.print_faults after.printed after.print_faults
@@ -147,7 +143,7 @@ module _ {command : Option Command} {before after : World} where
   refused_by (unread has alone why) it = absurd (it.not_read refl)
   refused_by (no_memory alone) it = absurd (it.not_memory refl)
   refused_by (stopped given is accept stop why) it = absurd (it.not_write refl)
-  refused_by (out_of_memory given is accept stop) it = absurd (it.not_memory refl)
+  refused_by (out_of_memory given is accept out) it = absurd (it.not_memory refl)
   refused_by (finished given is accept done) it = absurd (it.not_done refl)
 
   pub usage_reported : {status : ℕ} → Ran command before after status → status ≡ 2 → Prints usage_line before.printed before.print_faults after.printed after.print_faults
@@ -158,7 +154,7 @@ module _ {command : Option Command} {before after : World} where
   usage_reported (unread has alone why) two = absurd (omega arith)
   usage_reported (no_memory alone) two = absurd (omega arith)
   usage_reported (stopped given is accept stop why) two = absurd (omega arith)
-  usage_reported (out_of_memory given is accept stop) two = absurd (omega arith)
+  usage_reported (out_of_memory given is accept out) two = absurd (omega arith)
   usage_reported (finished given is accept done) two = absurd (omega arith)
 
   pub unwritten : {status : ℕ} → Ran command before after status → IsRefusal status ⊎ (status ≡ 3) → after.files ≡ before.files
@@ -167,25 +163,28 @@ module _ {command : Option Command} {before after : World} where
   unwritten (no_memory alone) it = alone.same_files
   unwritten (stopped given is accept stop why) (inl it) = absurd (it.not_write refl)
   unwritten (stopped given is accept stop why) (inr three) = absurd (omega arith)
-  unwritten (out_of_memory given is accept stop) (inl it) = absurd (it.not_memory refl)
-  unwritten (out_of_memory given is accept stop) (inr three) = absurd (omega arith)
+  unwritten (out_of_memory given is accept out) (inl it) = absurd (it.not_memory refl)
+  unwritten (out_of_memory given is accept out) (inr three) = absurd (omega arith)
   unwritten (finished given is accept done) (inl it) = absurd (it.not_done refl)
   unwritten (finished given is accept done) (inr three) = absurd (omega arith)
 
-  pub silent : {status : ℕ} → Ran command before after status → status ≡ 3 → after.printed ≡ before.printed
-  silent (refused given status line is refuse same prints) three = absurd ((of_refusal command given status line refuse).not_read three)
-  silent (unread has alone why) three = alone.same_printed
-  silent (no_memory alone) three = absurd (omega arith)
-  silent (stopped given is accept stop why) three = absurd (omega arith)
-  silent (out_of_memory given is accept stop) three = absurd (omega arith)
-  silent (finished given is accept done) three = absurd (omega arith)
+  pub silent : {status : ℕ} → Ran command before after status → (status ≡ 3) ⊎ (status ≡ 11) → after.printed ≡ before.printed
+  silent (refused given status line is refuse same prints) (inl three) = absurd ((of_refusal command given status line refuse).not_read three)
+  silent (refused given status line is refuse same prints) (inr eleven) = absurd ((of_refusal command given status line refuse).not_memory eleven)
+  silent (unread has alone why) it = alone.same_printed
+  silent (no_memory alone) it = alone.same_printed
+  silent (stopped given is accept stop why) (inl three) = absurd (omega arith)
+  silent (stopped given is accept stop why) (inr eleven) = absurd (omega arith)
+  silent (out_of_memory given is accept out) it = out.silent
+  silent (finished given is accept done) (inl three) = absurd (omega arith)
+  silent (finished given is accept done) (inr eleven) = absurd (omega arith)
 
   pub status_known : {status : ℕ} → Ran command before after status → IsRefusal status → (status ≡ 2) ⊎ ((kind : Kind) × (status ≡ status_of kind))
   status_known (refused given status line is refuse same prints) it = known_status command given status line refuse
   status_known (unread has alone why) it = absurd (it.not_read refl)
   status_known (no_memory alone) it = absurd (it.not_memory refl)
   status_known (stopped given is accept stop why) it = absurd (it.not_write refl)
-  status_known (out_of_memory given is accept stop) it = absurd (it.not_memory refl)
+  status_known (out_of_memory given is accept out) it = absurd (it.not_memory refl)
   status_known (finished given is accept done) it = absurd (it.not_done refl)
 
   pub refuses_all : {status : ℕ} → Ran command before after status → Refuses command before.files status before.read_faults after.read_faults
@@ -201,7 +200,7 @@ module _ {command : Option Command} {before after : World} where
   refuses_all (no_memory alone) = any_told before.files (λ f. any_told (refuses command (got command f)) (λ report. inr (inl refl)))
   refuses_all (stopped given is accept stop why) =
       one_told before.files is (λ f g. subst (λ o. IfSome o (SaysSo 4 before.read_faults after.read_faults)) (sym accept ∙ ap (refuses command) (sym g)) tt)
-  refuses_all (out_of_memory given is accept stop) = any_told before.files (λ f. any_told (refuses command (got command f)) (λ report. inr (inl refl)))
+  refuses_all (out_of_memory given is accept out) = any_told before.files (λ f. any_told (refuses command (got command f)) (λ report. inr (inl refl)))
   refuses_all (finished given is accept done) =
       one_told before.files is (λ f g. subst (λ o. IfSome o (SaysSo 0 before.read_faults after.read_faults)) (sym accept ∙ ap (refuses command) (sym g)) tt)
 
@@ -210,29 +209,29 @@ module _ {command : Option Command} {before after : World} where
   done_by (unread has alone why) zero = absurd (omega arith)
   done_by (no_memory alone) zero = absurd (omega arith)
   done_by (stopped given is accept stop why) zero = absurd (omega arith)
-  done_by (out_of_memory given is accept stop) zero = absurd (omega arith)
+  done_by (out_of_memory given is accept out) zero = absurd (omega arith)
   done_by (finished given is accept done) zero = if_told before.files is done
     where
       if_told : (files : Option Files) → IfSome files (λ f. got command f ≡ given) → Finished command given files after.files before.printed after.printed → DoneBy command files after.files before.printed after.printed
       if_told None is done = tt
       if_told (Some f) is done = subst (λ g. Finished command g (Some f) after.files before.printed after.printed) (sym is) done
 
-  pub stopped_by : {status : ℕ} → Ran command before after status → (status ≡ 4) ⊎ (status ≡ 11) → StoppedBy command before.files after.files before.printed after.printed
-  stopped_by (refused given status line is refuse same prints) (inl four) = absurd ((of_refusal command given status line refuse).not_write four)
-  stopped_by (refused given status line is refuse same prints) (inr eleven) = absurd ((of_refusal command given status line refuse).not_memory eleven)
-  stopped_by (unread has alone why) (inl four) = absurd (omega arith)
-  stopped_by (unread has alone why) (inr eleven) = absurd (omega arith)
-  stopped_by (no_memory alone) it = if_told before.files alone
+  pub ran_out : {status : ℕ} → Ran command before after status → status ≡ 11 → ShortOfMemory command before.files after.files before.printed after.printed
+  ran_out (refused given status line is refuse same prints) eleven = absurd ((of_refusal command given status line refuse).not_memory eleven)
+  ran_out (unread has alone why) eleven = absurd (omega arith)
+  ran_out (no_memory alone) eleven = if_told before.files alone
     where
-      if_told : (files : Option Files) → Untouched files after.files before.printed after.printed → StoppedBy command files after.files before.printed after.printed
+      if_told : (files : Option Files) → Untouched files after.files before.printed after.printed → ShortOfMemory command files after.files before.printed after.printed
       if_told None alone = tt
       if_told (Some f) alone = inl alone
-  stopped_by (stopped given is accept stop why) it = if_stopped before.files given is stop
-  stopped_by (out_of_memory given is accept stop) it = if_stopped before.files given is stop
-  stopped_by (finished given is accept done) (inl four) = absurd (omega arith)
-  stopped_by (finished given is accept done) (inr eleven) = absurd (omega arith)
+  ran_out (stopped given is accept stop why) eleven = absurd (omega arith)
+  ran_out (out_of_memory given is accept out) eleven = if_told before.files is out
+    where
+      if_told : (files : Option Files) → IfSome files (λ f. got command f ≡ given) → RanOut command given files after.files before.printed after.printed → ShortOfMemory command files after.files before.printed after.printed
+      if_told None is out = tt
+      if_told (Some f) is out = inr (subst (λ g. RanOut command g (Some f) after.files before.printed after.printed) (sym is) out)
+  ran_out (finished given is accept done) eleven = absurd (omega arith)
 
-  -- the status of a write fault: the first writes were made
   pub left_alone : {status : ℕ} → Ran command before after status → status ≡ 11 → LeftAlone command before.files after.files before.printed after.printed
   left_alone (refused given status line is refuse same prints) eleven = absurd ((of_refusal command given status line refuse).not_memory eleven)
   left_alone (unread has alone why) eleven = absurd (omega arith)
@@ -242,10 +241,10 @@ module _ {command : Option Command} {before after : World} where
       if_told None alone = tt
       if_told (Some f) alone = λ _. alone
   left_alone (stopped given is accept stop why) eleven = absurd (omega arith)
-  left_alone (out_of_memory given is accept stop) eleven =
+  left_alone (out_of_memory given is accept out) eleven =
       one_told before.files is (λ f g not_accepted. absurd (not_accepted (record {
         not_refused = ap (refuses command) g ∙ accept;
-        not_missing = λ none. does_whole command given stop.writes stop.lines stop.does (sym g ∙ none);
+        not_missing = λ none. does_whole command given out.writes out.lines out.does (sym g ∙ none);
       })))
   left_alone (finished given is accept done) eleven = absurd (omega arith)
 
@@ -261,9 +260,10 @@ module _ {command : Option Command} {before after : World} where
   complete (no_memory alone) faultless = any_told before.files (λ f accepted. inr refl)
   complete (stopped given is accept stop (inl rose)) faultless = absurd (faultless.no_write rose)
   complete (stopped given is accept stop (inr rose)) faultless = absurd (faultless.no_print rose)
-  complete (out_of_memory given is accept stop) faultless = any_told before.files (λ f accepted. inr refl)
+  complete (out_of_memory given is accept out) faultless = any_told before.files (λ f accepted. inr refl)
   complete (finished given is accept done) faultless = any_told before.files (λ f accepted. inl refl)
 
+  -- the status of a write fault: the first writes were made
   pub failed_at : {status : ℕ} → Ran command before after status → status ≡ 4 → FailedAt command before.files after.files before.printed after.printed
   failed_at (refused given status line is refuse same prints) four = absurd ((of_refusal command given status line refuse).not_write four)
   failed_at (unread has alone why) four = absurd (omega arith)
@@ -273,7 +273,7 @@ module _ {command : Option Command} {before after : World} where
       if_told : (files : Option Files) → IfSome files (λ f. got command f ≡ given) → Stopped command given files after.files before.printed after.printed → FailedAt command files after.files before.printed after.printed
       if_told None is stop = tt
       if_told (Some f) is stop = subst (λ g. Stopped command g (Some f) after.files before.printed after.printed) (sym is) stop
-  failed_at (out_of_memory given is accept stop) four = absurd (omega arith)
+  failed_at (out_of_memory given is accept out) four = absurd (omega arith)
   failed_at (finished given is accept done) four = absurd (omega arith)
 
   pub absent : {status : ℕ} → Ran command before after status → Absent command before.files status
@@ -283,7 +283,7 @@ module _ {command : Option Command} {before after : World} where
   absent (no_memory alone) = any_told before.files (λ f none. inr refl)
   absent (stopped given is accept stop why) =
       one_told before.files is (λ f g none. absurd (does_whole command given stop.writes stop.lines stop.does (sym g ∙ none)))
-  absent (out_of_memory given is accept stop) = any_told before.files (λ f none. inr refl)
+  absent (out_of_memory given is accept out) = any_told before.files (λ f none. inr refl)
   absent (finished given is accept done) =
       one_told before.files is (λ f g none. absurd (does_whole command given done.writes done.lines done.does (sym g ∙ none)))
 
@@ -294,5 +294,5 @@ module _ {command : Option Command} {before after : World} where
   never_damaged reading laws (unread has alone why) = any_told before.files (λ f kept nine. omega arith)
   never_damaged reading laws (no_memory alone) = any_told before.files (λ f kept nine. omega arith)
   never_damaged reading laws (stopped given is accept stop why) = any_told before.files (λ f kept nine. omega arith)
-  never_damaged reading laws (out_of_memory given is accept stop) = any_told before.files (λ f kept nine. omega arith)
+  never_damaged reading laws (out_of_memory given is accept out) = any_told before.files (λ f kept nine. omega arith)
   never_damaged reading laws (finished given is accept done) = any_told before.files (λ f kept nine. omega arith)

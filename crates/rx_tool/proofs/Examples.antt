@@ -32,7 +32,7 @@ use Rattle.rx_tool.specs.Check.{bounds_lines}
 use Rattle.rx_tool.specs.MakeClient.{seed_of}
 use Rattle.rx_tool.specs.Run.{word_number, values_refusal, jobs_line, output_digits}
 use Rattle.rx_tool.specs.Commands.{command_of, reads_of, command_refusal}
-use Rattle.rx_tool.specs.Got.{whole, long, missing, got_one, refuses}
+use Rattle.rx_tool.specs.Got.{file_limit, whole, long, missing, got_one, refuses}
 use Rattle.rx_tool.specs.Left.{written}
 use Rattle.rx_tool.specs.WholeWay.{plain_digits, plain_lines}
 
@@ -75,6 +75,9 @@ reads : (reads_of (Check (Named rx_test)) ≡ []) × (reads_of (MakeClient (File
 reads = (refl, refl, refl, refl)
 
 -- a file that is missing ends the reading, and so does one that is too long
+the_file_limit : file_limit ≡ 536870912
+the_file_limit = refl
+
 got_files : (got_one (codes "a") (Some (1 ∷ [])) (whole ((2 ∷ []) ∷ [])) ≡ whole ((1 ∷ []) ∷ (2 ∷ []) ∷ [])) × (got_one (codes "a") (Some (1 ∷ [])) missing ≡ missing) × (got_one (codes "a") None (long (codes "b") 536870913) ≡ missing) × (got_one (codes "a") (Some []) (long (codes "b") 536870913) ≡ long (codes "b") 536870913)
 got_files = (refl, refl, refl, refl)
 

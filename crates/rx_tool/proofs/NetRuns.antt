@@ -23,7 +23,7 @@ use Rattle.rx_server.specs.Inputs.{items_of, blocks_found, digits_found}
 use Rattle.rx_server.specs.Outputs.{output_item}
 use Rattle.rx_net.specs.Legal.{Legal}
 use Rattle.rx_server.specs.Laws.{AreCellBlocks, ServerLaws}
-use Rattle.rx_tool.specs.declared.done.Stop.{Stop}
+use Rattle.rx_tool.specs.declared.outcome.Stop.{Stop}
 use Rattle.rx_tool.specs.Answers.{StopsFor}
 use Rattle.rx_tool.specs.Words.{texts}
 use Rattle.rx_tool.specs.Run.{AreCipherValues, AreCiphers, MayRun, ciphers_of, jobs_line, malformed_input, or_else, run_cells, run_cipher, run_refused, run_refusal, values_refusal, KeepsRun, KeepsItems, RunDoes}

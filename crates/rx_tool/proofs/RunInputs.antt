@@ -15,8 +15,8 @@ use Rattle.rx_crew.specs.Kernel.{basis_params}
 use Rattle.rx_server.specs.Laws.{AreCiphersOf}
 use Rattle.rx_report.specs.declared.difference.Difference.{Difference}
 use Rattle.rx_report.specs.Reports.{Report, mismatch, first_difference, difference_of}
-use Rattle.rx_tool.specs.declared.done.Stop.{Stop}
-use Rattle.rx_tool.specs.declared.done.Stop.TheVariants.{Refused, Read, Memory}
+use Rattle.rx_tool.specs.declared.outcome.Stop.{Stop}
+use Rattle.rx_tool.specs.declared.outcome.Stop.TheVariants.{Refused, Read, Memory}
 use Rattle.rx_tool.specs.Answers.{StopsFor}
 use Rattle.rx_tool.specs.Words.{texts}
 use Rattle.rx_tool.specs.Run.{AreCiphers, AreCipherValues, AreOfSet, or_else, cipher_before, ciphers_of, malformed_input, one_malformed, input_difference}
@@ -26,9 +26,6 @@ pub record ReadSoFar (names files : List (List ℕ)) (place : ℕ) (ciphers : Li
   pub refusal : malformed_input (drop place names) (drop place files) ≡ malformed_input names files
   pub values : ciphers ++ ciphers_of (drop place files) ≡ ciphers_of files
   pub are : (rest : List Cipher) → AreCiphers (drop place files) rest → AreCiphers files (ciphers ++ rest)
-
-pub none_read : (names files : List (List ℕ)) → ReadSoFar names files 0 []
-none_read names files = record { refusal = refl; values = refl; are = λ rest h. h }
 
 next : {X : Type 0} (xs : List X) (i : ℕ) (x : X) → i < length xs → x ≡ get_or xs i x → drop i xs ≡ x ∷ drop (i + 1) xs
 next xs i x p e = rw add-one (drop-cons xs i x p ∙ ap (λ y. y ∷ drop (suc i) xs) (sym e))
@@ -83,9 +80,6 @@ pub record SameSoFar (p : Params) (names : List (List ℕ)) (ciphers : List Ciph
   pub refusal : input_difference p (drop place names) (drop place ciphers) ≡ input_difference p names ciphers
   pub same : AreOfSet p (drop place ciphers) → AreOfSet p ciphers
 
-pub none_compared : (p : Params) (names : List (List ℕ)) (ciphers : List Cipher) → SameSoFar p names ciphers 0
-none_compared p names ciphers = record { refusal = refl; same = λ h. h }
-
 -- lists without a difference
 lists_same : (n : ℕ) (xs ys : List ℕ) → length xs ≡ length ys → first_difference n xs ys ≡ None → xs ≡ ys
 lists_same n [] [] l e = refl
@@ -122,15 +116,6 @@ differs_at p names ciphers place name c d so l e m f some =
     let cs : drop place ciphers ≡ c ∷ drop (place + 1) ciphers = next ciphers place c m f in
     sym so.refusal ∙ ap (input_difference p (drop place names)) cs ∙ ap (λ xs. input_difference p xs (c ∷ drop (place + 1) ciphers)) ns
     ∙ ap (λ d. or_else (option_map (mismatch name) d) (input_difference p (drop (place + 1) names) (drop (place + 1) ciphers))) some
-
-pub all_same : (p : Params) (names : List (List ℕ)) (ciphers : List Cipher) (place : ℕ) → SameSoFar p names ciphers place → length ciphers ≤ place → length ciphers ≡ length names
-    → (input_difference p names ciphers ≡ None) × AreOfSet p ciphers
-all_same p names ciphers place so l same =
-    let ns : drop place names ≡ [] = drop_all place names (omega (arith, l, same)) in
-    let cs : drop place ciphers ≡ [] = drop_all place ciphers l in (
-      sym so.refusal ∙ ap (λ xs. input_difference p xs (drop place ciphers)) ns,
-      so.same (subst (AreOfSet p) (sym cs) tt),
-    )
 
 pub values_fit : (files : List (List ℕ)) (ciphers : List Cipher) → AreCiphers files ciphers → AreCipherValues ciphers
 values_fit [] [] are = tt

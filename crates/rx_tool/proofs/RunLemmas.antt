@@ -2,18 +2,19 @@
 use Rattle.std.proofs.Common.{◌≡◌, ◌≢◌, ℕ, List, [], refl, sym, ap, subst, ◌∙◌, inl, inr, Some, None, Option, IfSome, Err}
 use Rattle.std.specs.Option.{option_map}
 use Rattle.rx_store.specs.Files.{Files}
+use Rattle.rx_store.specs.Counts.{Rose}
 use Rattle.rx_report.specs.declared.refusal.Kind.TheVariants.{Limit}
 use Rattle.rx_tool.specs.declared.command.Command.{Command}
-use Rattle.rx_tool.specs.declared.done.Stop.{Stop}
-use Rattle.rx_tool.specs.declared.done.Stop.TheVariants.{Refused, Read, Memory}
+use Rattle.rx_tool.specs.declared.outcome.Stop.{Stop}
+use Rattle.rx_tool.specs.declared.outcome.Stop.TheVariants.{Refused, Read, Memory}
 use Rattle.rx_report.specs.Reports.{status_of, too_long, usage_line}
 use Rattle.rx_tool.specs.Commands.{reads_of, command_refusal, Does}
 use Rattle.rx_tool.specs.Got.{Got, whole, long, got_all, refuses, as_report, ReadsAll}
-use Rattle.rx_tool.specs.Left.{told_written, MadeFirst}
+use Rattle.rx_tool.specs.Left.{told_written, MadeWhole, MadeFirst, clean}
 use Rattle.rx_tool.specs.Answers.{Answers}
-use Rattle.rx_tool.specs.Parts as parts
-use Rattle.rx_tool.specs.Parts.{ReportGives, GivesUp, EndsShort, Performs, at_write, at_put}
-use Rattle.rx_tool.specs.Ran.{World, world, Stopped, IsGot, Ran, refused, unread, no_memory, stopped, out_of_memory, finished}
+use Rattle.rx_tool.specs.Ends as ends
+use Rattle.rx_tool.specs.Ends.{ReportGives, GivesUp, Performs, at_write, at_put, short_of_memory}
+use Rattle.rx_tool.specs.Ran.{world, IsGot, Ran, refused, unread, no_memory, stopped, out_of_memory, finished}
 use Rattle.rx_tool.proofs.WrittenLemmas.{all_made}
 
 is_some : (command : Command) → Some command ≢ None
@@ -61,35 +62,31 @@ module _ (command : Command) (status : ℕ) (f0 f1 : Option Files) (r0 r1 w0 w1 
   pub gave_up_with : (given : List (List ℕ)) (stop : Stop) (files : List (List ℕ)) → given ≡ files → IfSome f0 (λ f. got_all (reads_of command) f ≡ whole files) → Answers command given (Err stop) → GivesUp stop p0 q0 p1 q1 status → Ran (Some command) (world f0 r0 w0 p0 q0) (world f1 r1 w1 p1 q1) status
   gave_up_with given stop files same_given is answers gives = gave_up stop files is (subst (λ g. Answers command g (Err stop)) same_given answers) gives
 
-ended_short : (command : Command) (given : Got) (status : ℕ) (before after : World) →
-    IsGot (Some command) before.files given → refuses (Some command) given ≡ None →
-    Stopped (Some command) given before.files after.files before.printed after.printed →
-    EndsShort status before.write_faults after.write_faults before.print_faults after.print_faults →
-    Ran (Some command) before after status
-ended_short command given status before after is accepted stop (inl (four, rose)) =
-    subst (λ s. Ran (Some command) before after s) (sym four) (stopped given is accepted stop rose)
-ended_short command given status before after is accepted stop (inr eleven) =
-    subst (λ s. Ran (Some command) before after s) (sym eleven) (out_of_memory given is accepted stop)
-
 -- the command was done, and its files were written and its lines printed, or some of them
 pub performed : (command : Command) (status : ℕ) (files : List (List ℕ)) (writes : List (List ℕ × List ℕ)) (lines : List ℕ)
     (f0 f1 f2 : Option Files) (r0 r2 w0 w1 w2 : ℕ) (p0 p2 : Option (List ℕ)) (q0 q2 : ℕ) → f1 ≡ f0 → w1 ≡ w0 →
     IfSome f0 (λ f. got_all (reads_of command) f ≡ whole files) → command_refusal command files ≡ None → Does command files writes lines →
     Performs writes lines f1 f2 w1 w2 p0 p2 q0 q2 status →
     Ran (Some command) (world f0 r0 w0 p0 q0) (world f2 r2 w2 p2 q2) status
-performed command status files writes lines f0 f1 f2 r0 r2 w0 w1 w2 p0 p2 q0 q2 same_files same_faults is accepted does (parts.whole zero all put) =
+performed command status files writes lines f0 f1 f2 r0 r2 w0 w1 w2 p0 p2 q0 q2 same_files same_faults is accepted does (ends.whole zero all put) =
     subst (λ s. Ran (Some command) (world f0 r0 w0 p0 q0) (world f2 r2 w2 p2 q2) s) (sym zero)
     (finished (whole files) is (ap (option_map as_report) accepted)
     (record { writes = writes; lines = lines; does = does; wrote = all ∙ ap (told_written writes) same_files; put = put }))
-performed command status files writes lines f0 f1 f2 r0 r2 w0 w1 w2 p0 p2 q0 q2 same_files same_faults is accepted does (at_write made short first silent) =
-    ended_short command (whole files) status (world f0 r0 w0 p0 q0) (world f2 r2 w2 p2 q2) is (ap (option_map as_report) accepted)
+performed command status files writes lines f0 f1 f2 r0 r2 w0 w1 w2 p0 p2 q0 q2 same_files same_faults is accepted does (at_write made four rose first silent) =
+    subst (λ s. Ran (Some command) (world f0 r0 w0 p0 q0) (world f2 r2 w2 p2 q2) s) (sym four)
+    (stopped (whole files) is (ap (option_map as_report) accepted)
     (record { writes = writes; lines = lines; does = does; made = made; stands = subst (λ f. MadeFirst writes f f2 made) same_files first; put = inl silent })
-    (subst (λ w. EndsShort status w w2 q0 q2) same_faults short)
-performed command status files writes lines f0 f1 f2 r0 r2 w0 w1 w2 p0 p2 q0 q2 same_files same_faults is accepted does (at_put short all part) =
+    (inl (subst (λ w. Rose w w2) same_faults rose)))
+performed command status files writes lines f0 f1 f2 r0 r2 w0 w1 w2 p0 p2 q0 q2 same_files same_faults is accepted does (at_put four rose all part) =
     let whole_written : f2 ≡ told_written writes f0 = all ∙ ap (told_written writes) same_files in
-    ended_short command (whole files) status (world f0 r0 w0 p0 q0) (world f2 r2 w2 p2 q2) is (ap (option_map as_report) accepted)
-    (record { writes = writes; lines = lines; does = does; made = _; stands = all_made writes f0 f2 whole_written; put = inr (whole_written, part) })
-    (subst (λ w. EndsShort status w w2 q0 q2) same_faults short)
+    subst (λ s. Ran (Some command) (world f0 r0 w0 p0 q0) (world f2 r2 w2 p2 q2) s) (sym four)
+    (stopped (whole files) is (ap (option_map as_report) accepted)
+    (record { writes = writes; lines = lines; does = does; made = _; stands = clean (all_made writes f0 f2 whole_written); put = inr (whole_written, part) })
+    (inr rose))
+performed command status files writes lines f0 f1 f2 r0 r2 w0 w1 w2 p0 p2 q0 q2 same_files same_faults is accepted does (short_of_memory made eleven first silent) =
+    subst (λ s. Ran (Some command) (world f0 r0 w0 p0 q0) (world f2 r2 w2 p2 q2) s) (sym eleven)
+    (out_of_memory (whole files) is (ap (option_map as_report) accepted)
+    (record { writes = writes; lines = lines; does = does; made = made; wrote = subst (λ f. MadeWhole writes f f2 made) same_files first; silent = silent }))
 
 no_names : (files : Option Files) → IsGot None files (whole [])
 no_names None = tt

@@ -2,9 +2,9 @@
 use Rattle.std.specs.Prelude.{◌≡◌, ℕ, List, Some, None, Option, Result, Ok, Err}
 use Rattle.std.specs.String.{string_bytes}
 use Rattle.rx_report.specs.Reports.{Report}
-use Rattle.rx_tool.specs.declared.done.Done.{Done}
-use Rattle.rx_tool.specs.declared.done.Stop.{Stop}
-use Rattle.rx_tool.specs.declared.done.Stop.TheVariants.{Refused, Read, Memory}
+use Rattle.rx_tool.specs.declared.outcome.Done.{Done}
+use Rattle.rx_tool.specs.declared.outcome.Stop.{Stop}
+use Rattle.rx_tool.specs.declared.outcome.Stop.TheVariants.{Refused, Read, Memory}
 use Rattle.rx_tool.specs.declared.command.Command.{Command}
 use Rattle.rx_tool.specs.Commands.{command_refusal, Does}
 

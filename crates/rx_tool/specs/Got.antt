@@ -1,15 +1,18 @@
 -- What the reads of a command give, where the store tells its files.
-use Rattle.std.specs.Prelude.{◌≡◌, ℕ, List, [], ◌∷◌, length, Option, Some, None, if◌then◌else◌, nat_le, Result, Ok, Err, IfSome, IsSomeAnd, ◌⊎◌, Vec}
+use Rattle.std.specs.Prelude.{◌≡◌, ℕ, List, [], ◌∷◌, ◌^◌, length, Option, Some, None, if◌then◌else◌, nat_le, Result, Ok, Err, IfSome, IsSomeAnd, ◌⊎◌, Vec}
 use Rattle.std.specs.Option.{option_map}
 use Rattle.std.specs.declared.alloc.Global.{Global}
 use Rattle.rx_store.specs.Files.{Files, file_at}
 use Rattle.rx_store.specs.Counts.{Rose}
-use Rattle.rx_tool.specs.declared.TheConstants.{FILE_LIMIT}
-use Rattle.rx_tool.specs.declared.done.Stop.{Stop}
-use Rattle.rx_tool.specs.declared.done.Stop.TheVariants.{Refused, Read, Memory}
+use Rattle.rx_tool.specs.declared.outcome.Stop.{Stop}
+use Rattle.rx_tool.specs.declared.outcome.Stop.TheVariants.{Refused, Read, Memory}
 use Rattle.rx_tool.specs.declared.command.Command.{Command}
 use Rattle.rx_report.specs.Reports.{Report, status_of, usage_line, too_long}
 use Rattle.rx_tool.specs.Commands.{reads_of, command_refusal, Does}
+
+-- the greatest length of a file that is read, in bytes
+abbrev pub file_limit : ℕ
+file_limit = 2 ^ 29
 
 -- Every file whole, in the order of reading; or the first that is longer than the limit, with its
 -- length; or the first that is missing, all before it being whole.
@@ -26,7 +29,7 @@ before_rest bytes missing = missing
 abbrev pub got_one : List ℕ → Option (List ℕ) → Got → Got
 got_one name None rest = missing
 got_one name (Some bytes) rest =
-    if nat_le (length bytes) FILE_LIMIT then before_rest bytes rest else long name (length bytes)
+    if nat_le (length bytes) file_limit then before_rest bytes rest else long name (length bytes)
 
 abbrev pub got_all : List (List ℕ) → Files → Got
 got_all [] files = whole []

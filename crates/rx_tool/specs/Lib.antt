@@ -11,6 +11,6 @@ pub mod Answers
 pub mod Got
 pub mod Left
 pub mod Ran
-pub mod Parts
+pub mod Ends
 pub mod Told
 pub mod WholeWay

@@ -7,7 +7,7 @@ use Rattle.rx_tool.specs.declared.command.Command.TheVariants.{Decrypt}
 use Rattle.rx_tool.specs.Decrypt.{AreKeptFiles}
 use Rattle.rx_tool.specs.Got.{Got, whole, missing, got, refuses}
 use Rattle.rx_tool.specs.Left.{Prints}
-use Rattle.rx_tool.specs.Ran.{Untouched, Finished, Stopped}
+use Rattle.rx_tool.specs.Ran.{Untouched, Finished, Stopped, RanOut}
 
 -- a status that a refusal gives: none of done, read fault, write fault and want of memory
 pub record IsRefusal (status : ℕ) : Type 0 where
@@ -43,10 +43,10 @@ abbrev pub DoneBy : Option Command → Option Files → Option Files → Option 
 DoneBy command files files_now printed printed_now =
     IfSome files (λ f. Finished command (got command f) (Some f) files_now printed printed_now)
 
--- where nothing refuses: nothing was done, or the first writes were
-abbrev pub StoppedBy : Option Command → Option Files → Option Files → Option (List ℕ) → Option (List ℕ) → Type 0
-StoppedBy command files files_now printed printed_now =
-    IfSome files (λ f. Untouched (Some f) files_now printed printed_now ⊎ Stopped command (got command f) (Some f) files_now printed printed_now)
+-- where memory ran out: nothing was done, or the first writes of the command, each of them whole
+abbrev pub ShortOfMemory : Option Command → Option Files → Option Files → Option (List ℕ) → Option (List ℕ) → Type 0
+ShortOfMemory command files files_now printed printed_now =
+    IfSome files (λ f. Untouched (Some f) files_now printed printed_now ⊎ RanOut command (got command f) (Some f) files_now printed printed_now)
 
 -- where a write or the printing failed: the first writes of the command were made
 abbrev pub FailedAt : Option Command → Option Files → Option Files → Option (List ℕ) → Option (List ℕ) → Type 0

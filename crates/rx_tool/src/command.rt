@@ -10,7 +10,7 @@ ghost use Rattle.rx_tool.specs.Run.{run_of, word_number};
 ghost use Rattle.rx_tool.specs.Decrypt.{decrypt_of};
 ghost use Rattle.rx_tool.specs.Words.{texts};
 
-use crate::text::{Names, Word};
+use crate::words::{Names, Word};
 use hex::FromHex;
 use rx_params::{Params, named};
 use rx_text::Numeral;

@@ -6,10 +6,10 @@ mod client;
 mod decrypt;
 mod encrypt;
 mod keygen;
-mod parts;
 mod run;
 mod run_checks;
 mod run_inputs;
+mod shared;
 
 pub use check::check_set;
 pub use client::make_client;

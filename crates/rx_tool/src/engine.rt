@@ -4,8 +4,9 @@ ghost use Rattle.rx_tool.specs.Got.{ReadsAll};
 ghost use Rattle.rx_tool.specs.Left.{WritesAll};
 
 use crate::FILE_LIMIT;
-use crate::done::{Output, Stop};
-use crate::text::{Bytes, Word};
+use crate::bytes::Bytes;
+use crate::outcome::{Output, Stop};
+use crate::words::Word;
 use rx_report::too_long;
 use rx_store::{ReadError, Store, WriteError};
 use std::alloc::Global;

@@ -2,13 +2,14 @@
 //! them is written and printed. The status says how it ended.
 #![tactic(auto)]
 
+mod bytes;
 mod command;
 mod commands;
-mod done;
 mod engine;
 mod laws;
-mod text;
+mod outcome;
 mod top;
+mod words;
 
 pub use laws::whole_way_laws;
 pub use rx_crew::{Gate, OpenGate};

@@ -5,20 +5,20 @@ ghost use Rattle.rx_report.specs.declared.refusal.Kind.{Kind};
 ghost use Rattle.rx_report.specs.Reports.{status_of, usage_line};
 ghost use Rattle.rx_tool.specs.Got.{got, missing};
 ghost use Rattle.rx_tool.specs.Left.{Prints};
-ghost use Rattle.rx_tool.specs.Told.{IsRefusal, RefusedBy, Refuses, DoneBy, StoppedBy, FailedAt, LeftAlone, Faultless, Complete, Absent, NeverDamaged};
+ghost use Rattle.rx_tool.specs.Told.{IsRefusal, RefusedBy, Refuses, DoneBy, ShortOfMemory, FailedAt, LeftAlone, Faultless, Complete, Absent, NeverDamaged};
 ghost use Rattle.rx_tool.specs.Words.{texts};
 ghost use Rattle.rx_tool.specs.Answers.{Answers};
 ghost use Rattle.rx_tool.specs.Commands.{command_of, reads_of};
 ghost use Rattle.rx_tool.specs.Ran.{Ran, world};
-ghost use Rattle.rx_tool.specs.Parts.{ReportGives, GivesUp, Performs};
+ghost use Rattle.rx_tool.specs.Ends.{ReportGives, GivesUp, Performs};
 
+use crate::bytes::Bytes;
 use crate::command::{Command, parse};
 use crate::commands::{
     check_set, decrypt_numbers, encrypt_numbers, make_client, make_server, run_net_files,
 };
-use crate::done::{Done, Output, Stop};
 use crate::engine::{read_all, write_all};
-use crate::text::Bytes;
+use crate::outcome::{Done, Output, Stop};
 use rx_client::reading_laws;
 use rx_codec::file_laws;
 use rx_crew::Gate;
@@ -28,7 +28,8 @@ use std::thread::Threads;
 
 /// Runs the command that the words after the program's name are. The status is 0 where it was done, 2 where the words
 /// are no command, 3 where a read failed, 4 where a write or the printing failed, 11 for want of memory, and else that
-/// of the refusal, 5 to 10. Source: `docs/FORMATS.md`, Reports.
+/// of the refusal, 5 to 10. After want of memory nothing was printed, and each file is whole or as it was. Source:
+/// `docs/FORMATS.md`, Reports.
 pub fn tool<R: Threads + Sync, S: Store, K: Sink, G: Gate + Sync>(
     rt: &R,
     alloc: Global,
@@ -54,7 +55,7 @@ pub fn tool<R: Threads + Sync, S: Store, K: Sink, G: Gate + Sync>(
     ensures refuses { Refuses (command_of (texts words.now)) (S.files store.old) result (S.read_faults store.old) (S.read_faults store.new) }
     ensures known { IsRefusal result → (result ≡ 2) ⊎ ((kind : Kind) × (result ≡ status_of kind)) }
     ensures unwritten { IsRefusal result ⊎ (result ≡ 3) → S.files store.new ≡ S.files store.old }
-    ensures silent { result ≡ 3 → K.written sink.new ≡ K.written sink.old }
+    ensures silent { (result ≡ 3) ⊎ (result ≡ 11) → K.written sink.new ≡ K.written sink.old }
 
     // A ciphertext file whose blocks keep numbers under the client's key is never damaged.
     ensures undamaged { NeverDamaged (command_of (texts words.now)) (S.files store.old) result }
@@ -62,7 +63,7 @@ pub fn tool<R: Threads + Sync, S: Store, K: Sink, G: Gate + Sync>(
     // What is done, and what stands where it was not.
     ensures done { result ≡ 0 → DoneBy (command_of (texts words.now)) (S.files store.old) (S.files store.new) (K.written sink.old) (K.written sink.new) }
     ensures stopped { result ≡ 4 → FailedAt (command_of (texts words.now)) (S.files store.old) (S.files store.new) (K.written sink.old) (K.written sink.new) }
-    ensures ran_out { result ≡ 11 → StoppedBy (command_of (texts words.now)) (S.files store.old) (S.files store.new) (K.written sink.old) (K.written sink.new) }
+    ensures ran_out { result ≡ 11 → ShortOfMemory (command_of (texts words.now)) (S.files store.old) (S.files store.new) (K.written sink.old) (K.written sink.new) }
     ensures left_alone { result ≡ 11 → LeftAlone (command_of (texts words.now)) (S.files store.old) (S.files store.new) (K.written sink.old) (K.written sink.new) }
 
     // A missing file is a read fault.

@@ -5,10 +5,10 @@ ghost use Rattle.rx_tool.specs.Check.{bound_line, bounds_lines};
 ghost use Rattle.rx_tool.specs.Sources.{source_reads};
 ghost use Rattle.rx_tool.specs.declared.command.Command.TheVariants.{Check};
 
+use crate::bytes::Bytes;
 use crate::command::Source;
-use crate::commands::parts::accepted_set;
-use crate::done::{Done, Stop};
-use crate::text::Bytes;
+use crate::commands::shared::accepted_set;
+use crate::outcome::{Done, Stop};
 use rx_params::Bounds;
 use std::alloc::{AllocError, Global};
 

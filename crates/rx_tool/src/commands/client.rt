@@ -4,10 +4,11 @@ ghost use Rattle.rx_tool.specs.Answers.{Answers};
 ghost use Rattle.rx_tool.specs.Sources.{source_reads};
 ghost use Rattle.rx_tool.specs.declared.command.Command.TheVariants.{MakeClient};
 
+use crate::bytes::Bytes;
 use crate::command::Source;
-use crate::commands::parts::{accepted_set, one_file};
-use crate::done::{Done, Stop};
-use crate::text::{Bytes, Word};
+use crate::commands::shared::{accepted_set, one_file};
+use crate::outcome::{Done, Stop};
+use crate::words::Word;
 use rx_codec::{Client, encode_client};
 use std::alloc::Global;
 

@@ -3,9 +3,10 @@ ghost use Rattle.std.specs.Prelude.{◌≡◌, length};
 ghost use Rattle.rx_tool.specs.Answers.{Answers};
 ghost use Rattle.rx_tool.specs.declared.command.Command.TheVariants.{Decrypt};
 
-use crate::commands::parts::stop_for;
-use crate::done::{Done, Stop};
-use crate::text::{Bytes, Word};
+use crate::bytes::Bytes;
+use crate::commands::shared::stop_for;
+use crate::outcome::{Done, Stop};
+use crate::words::Word;
 use rx_client::{DecryptError, decrypt_items};
 use rx_codec::{CodecFault, decode_cipher, decode_client};
 use rx_lwe::SecretKey;

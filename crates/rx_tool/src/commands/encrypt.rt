@@ -11,9 +11,10 @@ ghost use Rattle.rx_tool.specs.Answers.{Answers};
 ghost use Rattle.rx_tool.specs.Encrypt.{encryption};
 ghost use Rattle.rx_tool.specs.declared.command.Command.TheVariants.{Encrypt};
 
-use crate::commands::parts::{one_file, stop_for};
-use crate::done::{Done, Stop};
-use crate::text::{Bytes, Word};
+use crate::bytes::Bytes;
+use crate::commands::shared::{one_file, stop_for};
+use crate::outcome::{Done, Stop};
+use crate::words::Word;
 use rx_circuit::{ParseError, Values, read_values};
 use rx_client::{encrypt_values, wrong_width_in};
 use rx_codec::{Client, decode_client};

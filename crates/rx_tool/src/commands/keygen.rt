@@ -3,9 +3,10 @@ ghost use Rattle.std.specs.Prelude.{◌≡◌, length};
 ghost use Rattle.rx_tool.specs.Answers.{Answers};
 ghost use Rattle.rx_tool.specs.declared.command.Command.TheVariants.{Keygen};
 
-use crate::commands::parts::{one_file, stop_for};
-use crate::done::{Done, Stop};
-use crate::text::{Bytes, Word};
+use crate::bytes::Bytes;
+use crate::commands::shared::{one_file, stop_for};
+use crate::outcome::{Done, Stop};
+use crate::words::Word;
 use rx_boot::ServerKey;
 use rx_codec::{decode_client, encode_server};
 use rx_report::malformed_binary;

@@ -6,11 +6,12 @@ ghost use Rattle.rx_tool.specs.Answers.{Answers};
 ghost use Rattle.rx_tool.specs.Run.{AreCipherValues, KeepsItems, KeepsRun, MayRun, jobs_line, run_cipher};
 ghost use Rattle.rx_tool.specs.declared.command.Command.TheVariants.{Run};
 
-use crate::commands::parts::{one_file, stop_for};
+use crate::bytes::Bytes;
 use crate::commands::run_checks::check_values;
 use crate::commands::run_inputs::read_ciphers;
-use crate::done::{Done, Stop};
-use crate::text::{Bytes, Names, Word};
+use crate::commands::shared::{one_file, stop_for};
+use crate::outcome::{Done, Stop};
+use crate::words::{Names, Word};
 use rx_boot::ServerKey;
 use rx_codec::{Blocks, Cipher, CodecFault, decode_net, decode_server, encode_cipher};
 use rx_crew::{Gate, run_net};

@@ -7,8 +7,8 @@ ghost use Rattle.rx_tool.specs.Answers.{Yields};
 ghost use Rattle.rx_tool.specs.Run.{AreOfSet, IsWithinLimits, MayRun, values_refusal, net_difference, input_difference, inputs_refusal, limits_refusal};
 ghost use Rattle.rx_tool.specs.Words.{texts};
 
-use crate::commands::parts::stop_for;
-use crate::done::Stop;
+use crate::commands::shared::stop_for;
+use crate::outcome::Stop;
 use rx_boot::ServerKey;
 use rx_codec::Cipher;
 use rx_net::Net;

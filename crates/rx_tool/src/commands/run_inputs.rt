@@ -5,9 +5,9 @@ ghost use Rattle.rx_tool.specs.Answers.{Yields};
 ghost use Rattle.rx_tool.specs.Run.{AreCiphers, ciphers_of, malformed_input, one_malformed};
 ghost use Rattle.rx_tool.specs.Words.{texts};
 
-use crate::commands::parts::stop_for;
-use crate::done::Stop;
-use crate::text::Bytes;
+use crate::bytes::Bytes;
+use crate::commands::shared::stop_for;
+use crate::outcome::Stop;
 use rx_codec::{Cipher, CodecFault, decode_cipher};
 use rx_report::malformed_binary;
 use std::alloc::Global;

@@ -1,4 +1,3 @@
-use Rattle.std.proofs.Common.{inr}
 use Rattle.rx_tool.proofs.ClauseLemmas as clauses
 use Rattle.rx_tool.proofs.top.tool.Goals as goal
 
@@ -39,7 +38,7 @@ pub returns-clause-stopped : goal.returns-clause-stopped
 returns-clause-stopped g c = clauses.failed_at c.run_words-status.ensures
 
 pub returns-clause-ran_out : goal.returns-clause-ran_out
-returns-clause-ran_out g c = λ eleven. clauses.stopped_by c.run_words-status.ensures (inr eleven)
+returns-clause-ran_out g c = clauses.ran_out c.run_words-status.ensures
 
 pub returns-clause-left_alone : goal.returns-clause-left_alone
 returns-clause-left_alone g c = clauses.left_alone c.run_words-status.ensures

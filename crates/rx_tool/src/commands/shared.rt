@@ -4,11 +4,12 @@ ghost use Rattle.rx_params.specs.Derived.{bounds_of};
 ghost use Rattle.rx_params.specs.Acceptance.{Accepts};
 ghost use Rattle.rx_tool.specs.Answers.{Yields};
 ghost use Rattle.rx_tool.specs.Sources.{IsSet, set_refusal, source_reads, source_refusal};
-ghost use Rattle.rx_tool.specs.declared.done.Stop.TheVariants.{Refused, Memory};
+ghost use Rattle.rx_tool.specs.declared.outcome.Stop.TheVariants.{Refused, Memory};
 
+use crate::bytes::Bytes;
 use crate::command::Source;
-use crate::done::{Done, Output, Stop};
-use crate::text::{Bytes, Word};
+use crate::outcome::{Done, Output, Stop};
+use crate::words::Word;
 use rx_params::{Bounds, Params, check, read_params};
 use rx_report::{Refusal, malformed_text, not_accepted};
 use std::alloc::{AllocError, Global};

@@ -1,4 +1,4 @@
-//! Words of the command line, and the bytes of a file, which contracts see as lists of bytes.
+//! Words of the command line, which contracts see as lists of bytes.
 ghost use Rattle.std.specs.Prelude.{◌≡◌};
 ghost use Rattle.rx_tool.specs.Words.{texts};
 
@@ -62,35 +62,5 @@ impl<'a> Names<'a> {
         ensures { texts result.now ≡ self.now }
     {
         self.words
-    }
-}
-
-/// The whole bytes of a file that was read.
-#[derive(Drop)]
-pub struct Bytes {
-    bytes: Vec<u8>,
-}
-
-impl Model for Bytes {
-    ghost use Rattle.std.specs.Prelude.{List, ℕ};
-
-    ghost Value = { List ℕ };
-
-    ghost view = { λ b. b.bytes.items };
-}
-
-impl Bytes {
-    /// These bytes, without a copy.
-    pub fn new(bytes: Vec<u8>) -> Bytes
-        ensures { result ≡ bytes.items }
-    {
-        Bytes { bytes }
-    }
-
-    /// The bytes, lent.
-    pub fn as_slice(&self) -> &[u8]
-        ensures { result.now ≡ self.now }
-    {
-        self.bytes.as_slice()
     }
 }

@@ -65,7 +65,7 @@ pub enum Stop {
 
 impl From<AllocError> for Stop {
     ghost use Rattle.std.specs.Prelude.{◌≡◌};
-    ghost use Rattle.rx_tool.specs.declared.done.Stop.TheVariants.{Memory};
+    ghost use Rattle.rx_tool.specs.declared.outcome.Stop.TheVariants.{Memory};
 
     ghost from_gives = { λ _ stop. stop ≡ Memory };
 
@@ -76,7 +76,7 @@ impl From<AllocError> for Stop {
 
 impl<T: Drop> From<AllocFailed<T>> for Stop {
     ghost use Rattle.std.specs.Prelude.{◌≡◌};
-    ghost use Rattle.rx_tool.specs.declared.done.Stop.TheVariants.{Memory};
+    ghost use Rattle.rx_tool.specs.declared.outcome.Stop.TheVariants.{Memory};
 
     ghost from_gives = { λ _ stop. stop ≡ Memory };
 
