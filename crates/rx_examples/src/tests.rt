@@ -1,6 +1,6 @@
 //! The client's commands over files in memory: what they write and print, and what they refuse.
-use crate::balky::TooLongStore;
 use crate::texts::{small_bits, widths};
+use crate::too_long_store::TooLongStore;
 use rx_examples_kit::{
     first_wrong, has_length, holds, no_files, place_changed, place_longer, place_start, printed,
     run, was_printed, word_at,
@@ -227,6 +227,52 @@ fn faults_stop_a_command(rt: HostRuntime) -> Result<(), Fail> {
         11
     );
     assert!(rt; was_printed(&sink, ""));
+    Ok(())
+}
+
+/// The first line that does not end with the status beside it where the call of that number alone fails. Its store holds
+/// a client, a parameter text and a ciphertext.
+fn first_wrong_after_a_fault<R: Threads + Sync + AllocGlobal>(
+    rt: &R,
+    ciphertext: &[u8],
+    cases: &[(&str, u64, u8)],
+) -> Result<Option<String>, AllocError> {
+    let alloc = rt.alloc();
+    for (line, failing, status) in cases {
+        let mut store = MemStore::new(alloc, vec![in alloc; *failing]?);
+        store.insert("c", &CLIENT)?;
+        store.insert("p", small_bits(alloc, 26)?.as_bytes())?;
+        store.insert("out", ciphertext)?;
+        let (answer, _sink) = printed(rt, line, &mut store)?;
+        if answer != *status {
+            return Ok(Some(format!(in alloc; "{line}: {failing} {answer}")?));
+        }
+    }
+    Ok(None)
+}
+
+/// A command calls the store for its own files alone, reads before writes: the call after them may fail.
+#[test]
+fn no_other_call_is_made(rt: HostRuntime) -> Result<(), Fail> {
+    let mut store = no_files(rt.alloc());
+    store.insert("c", &CLIENT)?;
+    store.insert("v", b"int a 8 200\n")?;
+    assert_eq!(rt; printed(&rt, "encrypt c U Z v out", &mut store)?.0, 0);
+    let cases = [
+        ("check rx-test", 0, 0),
+        ("check p", 0, 3),
+        ("check p", 1, 0),
+        ("client rx-test Z k", 0, 4),
+        ("client rx-test Z k", 1, 0),
+        ("client p Z k", 0, 3),
+        ("client p Z k", 1, 4),
+        ("client p Z k", 2, 0),
+        ("decrypt c out", 0, 3),
+        ("decrypt c out", 1, 3),
+        ("decrypt c out", 2, 0),
+    ];
+    let ciphertext = store.get("out").unwrap_or(&[]);
+    assert_eq!(rt; first_wrong_after_a_fault(&rt, ciphertext, &cases)?, None);
     Ok(())
 }
 
