@@ -5,7 +5,7 @@ use rx_examples_kit::{
     first_wrong, has_length, holds, no_files, place_changed, place_longer, place_start, printed,
     run, was_printed, word_at,
 };
-use rx_store::{MemSink, MemStore};
+use rx_store::{MemSink, MemStore, ReadError, Store};
 use std::alloc::{AllocError, Global};
 use std::process::Abort;
 use std::test::Fail;
@@ -230,8 +230,8 @@ fn faults_stop_a_command(rt: HostRuntime) -> Result<(), Fail> {
     Ok(())
 }
 
-/// The first line that does not end with the status beside it where the call of that number alone fails. Its store holds
-/// a client, a parameter text and a ciphertext.
+/// The first line that does not end with the status beside it where the call of that number alone fails, or after whose
+/// status 0 the next call is not the one that fails. Its store holds a client, values, a parameter text and a ciphertext.
 fn first_wrong_after_a_fault<R: Threads + Sync + AllocGlobal>(
     rt: &R,
     ciphertext: &[u8],
@@ -241,17 +241,22 @@ fn first_wrong_after_a_fault<R: Threads + Sync + AllocGlobal>(
     for (line, failing, status) in cases {
         let mut store = MemStore::new(alloc, vec![in alloc; *failing]?);
         store.insert("c", &CLIENT)?;
+        store.insert("v", b"int a 8 200\n")?;
         store.insert("p", small_bits(alloc, 26)?.as_bytes())?;
         store.insert("out", ciphertext)?;
         let (answer, _sink) = printed(rt, line, &mut store)?;
-        if answer != *status {
+        let next_fails = match store.read(alloc, "c", 76) {
+            Err(ReadError::Failed) => true,
+            _ => false,
+        };
+        if answer != *status || (*status == 0 && !next_fails) {
             return Ok(Some(format!(in alloc; "{line}: {failing} {answer}")?));
         }
     }
     Ok(None)
 }
 
-/// A command calls the store for its own files alone, reads before writes: the call after them may fail.
+/// A command calls the store once for each of its own files, reads before writes, and never else.
 #[test]
 fn no_other_call_is_made(rt: HostRuntime) -> Result<(), Fail> {
     let mut store = no_files(rt.alloc());
@@ -267,6 +272,10 @@ fn no_other_call_is_made(rt: HostRuntime) -> Result<(), Fail> {
         ("client p Z k", 0, 3),
         ("client p Z k", 1, 4),
         ("client p Z k", 2, 0),
+        ("encrypt c U Z v k", 0, 3),
+        ("encrypt c U Z v k", 1, 3),
+        ("encrypt c U Z v k", 2, 4),
+        ("encrypt c U Z v k", 3, 0),
         ("decrypt c out", 0, 3),
         ("decrypt c out", 1, 3),
         ("decrypt c out", 2, 0),
