@@ -8,12 +8,6 @@ mod fresh;
 mod laws;
 mod sums;
 mod tables;
-#[cfg(test)]
-mod tests;
-#[cfg(test)]
-mod tests_sums;
-#[cfg(test)]
-mod tests_tables;
 
 pub use block::{Block, Damaged, TagFault, Tags};
 pub use decrypt::decrypt_block;
@@ -21,3 +15,6 @@ pub use fresh::{fresh_block, fresh_words_into};
 pub use laws::{fresh_laws, keeps_laws};
 pub use sums::{combine, mix_into};
 pub use tables::lookup;
+
+#[cfg(test)]
+mod tests;

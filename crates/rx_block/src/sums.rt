@@ -32,7 +32,8 @@ pub fn combine(
     requires room { length out.old.words ≡ large_dim p.now + 1 }
     ensures exact { MatchResult result
         (λ _. combined p.now blocks.now terms.now constant ≡ Ok out.new)
-        (λ fault. (combined p.now blocks.now terms.now constant ≡ Err fault) × (out.new ≡ out.old)) }
+        (λ fault. (combined p.now blocks.now terms.now constant ≡ Err fault)
+        × (out.new ≡ out.old)) }
     ensures size { length out.new.words ≡ length out.old.words }
     ensures keeps { OnOk result (KeepsSum p.now blocks.now terms.now constant out.new) }
 {
@@ -49,7 +50,7 @@ pub fn combine(
     Ok(())
 }
 
-// The greatest number that a block holds.
+/// The greatest number that a block holds.
 fn greatest_number(message_bits: u32) -> i32
     requires { (message_bits ≡ 2) ⊎ (message_bits ≡ 3) }
     ensures { result ≡ pos (plaintexts message_bits - 1) }
@@ -77,7 +78,7 @@ pub fn mix_into(p: &Params, blocks: &[Block], terms: &[Term], constant: i16, out
     out[body] = out[body].wrapping_add(message);
 }
 
-// What the tags of blocks say of a weighted sum of them.
+/// What the tags of blocks say of a weighted sum of them.
 fn tag_sums(blocks: &[Block], terms: &[Term], constant: i16) -> TagSums
     requires few { length terms.now ≤ 16 }
     requires cells { AreCellsOf blocks.now terms.now }

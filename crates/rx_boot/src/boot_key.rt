@@ -42,7 +42,8 @@ impl BootKey {
         requires fields { FieldsInRange p.now }
         requires small_size { length small.now ≡ p.now.lwe_dim }
         requires large_size { length large.now ≡ large_dim p.now }
-        ensures words { IfOk result (λ key. key ≡ boot_key_words p.now small.now large.now mask_seed.now noise_seed.now) }
+        ensures words { IfOk result (λ key.
+            key ≡ boot_key_words p.now small.now large.now mask_seed.now noise_seed.now) }
         ensures size { IfOk result (λ key. length key ≡ boot_size p.now) }
     {
         let words = made_words(alloc, p, small, large, mask_seed, noise_seed)?;

@@ -48,17 +48,18 @@ pub(crate) fn hide(
     }
 }
 
-// The opposite of a polynomial times a word.
+/// The opposite of a polynomial times a word.
 fn hide_opposite(weight: u64, polynomial: &[u64], hidden: &mut [u64])
     requires { length polynomial.now ≡ length hidden.old }
-    ensures { AreWords (length hidden.old) (λ i. neg_ℤ (pos weight *ℤ of_words polynomial.now i)) hidden.new }
+    ensures { AreWords (length hidden.old)
+        (λ i. neg_ℤ (pos weight *ℤ of_words polynomial.now i)) hidden.new }
 {
     for i in 0..hidden.len() {
         hidden[i] = weight.wrapping_mul(polynomial[i]).wrapping_neg();
     }
 }
 
-// A word as a polynomial.
+/// A word as a polynomial.
 fn hide_number(weight: u64, hidden: &mut [u64])
     requires { 0 < length hidden.old }
     ensures { AreWords (length hidden.old) (λ i. pos weight *ℤ unit_polynomial i) hidden.new }

@@ -16,7 +16,7 @@ pub(crate) fn mark_of(p: &Params, word: u64) -> u32
     mod_switch(word, log_size(p))
 }
 
-// The number of coefficients of a polynomial is this power of two.
+/// The number of coefficients of a polynomial is this power of two.
 fn log_size(p: &Params) -> u32
     requires { FieldsInRange p.now }
     ensures value { 2 ^ result ≡ p.now.poly_size }

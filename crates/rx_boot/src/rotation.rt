@@ -53,14 +53,15 @@ pub(crate) fn rotate(
     }
 }
 
-// The ciphertext before the first turn: its masks are 0, and its body is the accumulator of the table,
-// turned back by the mark of the switched body. There is room for a polynomial.
+/// The ciphertext before the first turn: its masks are 0, and its body is the accumulator of the table,
+/// turned back by the mark of the switched body. There is room for a polynomial.
 fn start(p: &Params, table: &[u8], body: u64, room: &mut [u64], turning: &mut [u64])
     requires accepted { Accepts p.now }
     requires table_size { length table.now ≡ plaintexts p.now.message_bits }
     requires room_size { length room.old ≡ glwe_size p.now }
     requires turning_size { length turning.old ≡ glwe_size p.now }
-    ensures masks { (q i : ℕ) → q < p.now.glwe_dim → i < p.now.poly_size → get_or turning.new (q * p.now.poly_size + i) 0 ≡ 0 }
+    ensures masks { (q i : ℕ) → q < p.now.glwe_dim → i < p.now.poly_size
+        → get_or turning.new (q * p.now.poly_size + i) 0 ≡ 0 }
     ensures body { (i : ℕ) → i < p.now.poly_size →
         get_or turning.new (p.now.glwe_dim * p.now.poly_size + i) 0
         ≡ word (turns
@@ -82,7 +83,7 @@ fn start(p: &Params, table: &[u8], body: u64, room: &mut [u64], turning: &mut [u
     );
 }
 
-// One turn: what the encrypted bit chooses of the turned ciphertext less itself is added.
+/// One turn: what the encrypted bit chooses of the turned ciphertext less itself is added.
 fn turn(
     product: &mut GlweScratch,
     p: &Params,
@@ -113,7 +114,7 @@ fn turn(
     external_add(product, p, bit, away, turning);
 }
 
-// Writes each polynomial of a ciphertext, turned by the amount, less itself.
+/// Writes each polynomial of a ciphertext, turned by the amount, less itself.
 fn turn_away(p: &Params, glwe: &[u64], amount: u32, away: &mut [u64])
     requires fields { FieldsInRange p.now }
     requires size { length glwe.now ≡ glwe_size p.now }

@@ -25,7 +25,8 @@ pub(crate) fn made_words(
     requires fields { FieldsInRange p.now }
     requires small_size { length small.now ≡ p.now.lwe_dim }
     requires large_size { length large.now ≡ large_dim p.now }
-    ensures { IfOk result (λ words. words.items ≡ boot_key_words p.now small.now large.now mask_seed.now noise_seed.now) }
+    ensures { IfOk result (λ words. words.items
+        ≡ boot_key_words p.now small.now large.now mask_seed.now noise_seed.now) }
 {
     let n = p.poly_size as usize;
     let count = p.glwe_dim as usize + 1;
@@ -38,7 +39,7 @@ pub(crate) fn made_words(
     Ok(words)
 }
 
-// Writes all rows, in order. There is room for three polynomials.
+/// Writes all rows, in order. There is room for three polynomials.
 fn write_rows(
     p: &Params,
     small: &SecretKey,
@@ -63,8 +64,8 @@ fn write_rows(
     }
 }
 
-// Writes the row of a number. There is room for three polynomials: what the row hides, and what encrypts
-// it.
+/// Writes the row of a number. There is room for three polynomials: what the row hides, and what encrypts
+/// it.
 fn write_row(
     p: &Params,
     small: &SecretKey,

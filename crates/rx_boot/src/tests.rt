@@ -45,7 +45,7 @@ fn a_number_is_looked_up(rt: HostRuntime) -> Result<(), Fail> {
     Ok(())
 }
 
-// What the bootstrap of a fresh ciphertext of a number decodes to.
+/// What the bootstrap of a fresh ciphertext of a number decodes to.
 fn looked_up(
     rt: &HostRuntime,
     key: &ServerKey,

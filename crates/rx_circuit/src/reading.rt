@@ -49,7 +49,7 @@ fn read_lines(alloc: Global, bytes: &[u8]) -> Result<Vec<ValueLine>, ParseError>
     }
 }
 
-// The fault of the line after these lines.
+/// The fault of the line after these lines.
 fn fault_behind(before: &[ValueLine], cause: LineCause) -> ParseError
     requires { length before.now ≤ MOST_LINES }
     ensures { result ≡ ParseError.Line (fault_at (length before.now + 1) cause) }
@@ -60,7 +60,7 @@ fn fault_behind(before: &[ValueLine], cause: LineCause) -> ParseError
     })
 }
 
-// The value of a line, after the lines before it.
+/// The value of a line, after the lines before it.
 fn value_line(line: &[u8], before: &[ValueLine]) -> Result<ValueLine, LineCause>
     ensures value { result ≡ line_after before.now (spelled_line (words_of line.now)) }
     ensures room { IfOk result (λ _. length before.now < MOST_LINES) }
@@ -76,14 +76,14 @@ fn value_line(line: &[u8], before: &[ValueLine]) -> Result<ValueLine, LineCause>
     Ok(value)
 }
 
-// Whether one of these lines has the name.
+/// Whether one of these lines has the name.
 fn is_taken(name: &Name, before: &[ValueLine]) -> bool
     ensures { result ≡ has_name name.now before.now }
 {
     before.iter().any(|earlier| earlier.name == *name)
 }
 
-// The words of a line, read each by itself.
+/// The words of a line, read each by itself.
 #[derive(Clone, Copy)]
 struct Spelled {
     kind: Kind,
@@ -93,7 +93,7 @@ struct Spelled {
 }
 
 impl Spelled {
-    // None where the line has no spelling of its format.
+    /// None where the line has no spelling of its format.
     fn of(line: &[u8]) -> Option<Spelled>
         ensures { result ≡ option_map held_line (spelled_line (words_of line.now)) }
     {
@@ -106,7 +106,7 @@ impl Spelled {
         })
     }
 
-    // The line, where its numerals are within their ranges, else `Number`.
+    /// The line, where its numerals are within their ranges, else `Number`.
     fn within_range(self) -> Result<ValueLine, LineCause>
         ensures { (line : Line) → self ≡ held_line line → result ≡ ranged_line line }
     {
@@ -134,7 +134,7 @@ fn kind_of_word(word: &[u8]) -> Option<Kind>
     }
 }
 
-// Whether a number of this kind may have so many bits, and holds the value.
+/// Whether a number of this kind may have so many bits, and holds the value.
 fn in_range(kind: Kind, bits: u64, value: u64) -> bool
     ensures { result ≡ (is_width kind bits && nat_lt value (2 ^ bits)) }
 {

@@ -57,7 +57,7 @@ fn first_wrong_line(rt: HostRuntime) {
     }
 }
 
-// So many lines, each of a name of its own, and then another line.
+/// So many lines, each of a name of its own, and then another line.
 fn text_of(rt: &HostRuntime, count: u32, last: &str) -> Result<String, Fail> {
     let mut text = String::new(rt.alloc());
     for number in 0..count {

@@ -88,7 +88,7 @@ pub fn decrypt_items(
     Ok(lines)
 }
 
-// The number of an item, or its first block that exceeds its degree.
+/// The number of an item, or its first block that exceeds its degree.
 fn item_number(p: &Params, key: &SecretKey, item: &Item) -> Result<u64, Damage>
     requires fields { FieldsInRange p.now }
     requires key { length key.now ≡ large_dim p.now }

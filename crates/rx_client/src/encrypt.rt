@@ -29,7 +29,7 @@ pub fn wrong_width_in(message_bits: u32, lines: &[ValueLine]) -> Option<&ValueLi
     None
 }
 
-// Whether blocks of some message bits make up the bits of a line.
+/// Whether blocks of some message bits make up the bits of a line.
 fn has_width(message_bits: u32, line: &ValueLine) -> bool
     requires { 0 < message_bits }
     ensures { result ≡ has_width_of message_bits line.now }
@@ -69,7 +69,7 @@ pub fn encrypt_values(
     Ok(file)
 }
 
-// The bytes of the file of some lines, in blocks of so many words, as far as a size can be counted.
+/// The bytes of the file of some lines, in blocks of so many words, as far as a size can be counted.
 fn file_size(p: &Params, words: usize, lines: &[ValueLine]) -> usize
     requires { FieldsInRange p.now }
 {
@@ -81,7 +81,7 @@ fn file_size(p: &Params, words: usize, lines: &[ValueLine]) -> usize
     size
 }
 
-// Adds the whole file of some lines. Each block is made in the lent words.
+/// Adds the whole file of some lines. Each block is made in the lent words.
 fn write_file(
     file: &mut Vec<u8>,
     words: &mut [u64],
@@ -106,7 +106,7 @@ fn write_file(
     Ok(())
 }
 
-// Adds the item of a line, whose first block has this number.
+/// Adds the item of a line, whose first block has this number.
 fn write_item(
     file: &mut Vec<u8>,
     words: &mut [u64],
@@ -142,7 +142,7 @@ fn write_item(
     Ok(())
 }
 
-// How many blocks a line has.
+/// How many blocks a line has.
 fn blocks_in(message_bits: u32, line: &ValueLine) -> u32
     requires { 0 < message_bits }
     ensures { result ≡ block_count line.now.kind message_bits line.now.bits }
@@ -153,7 +153,7 @@ fn blocks_in(message_bits: u32, line: &ValueLine) -> u32
     }
 }
 
-// Digit i of a value, the lowest first.
+/// Digit i of a value, the lowest first.
 fn digit_at(message_bits: u32, value: u64, i: u32) -> u8
     requires bits { (message_bits ≡ 2) ⊎ (message_bits ≡ 3) }
     requires within { message_bits * i < 64 }

@@ -38,7 +38,7 @@ fn line(rt: &impl Abort, kind: Kind, name: &str, bits: u32, value: u64) -> Value
     }
 }
 
-// The items of some lines under the key of the client's seed.
+/// The items of some lines under the key of the client's seed.
 fn items_of(
     alloc: Global,
     p: &Params,
@@ -56,7 +56,7 @@ fn items_of(
     Ok(cipher.items.into_vec())
 }
 
-// What a client reads of lines that it encrypted.
+/// What a client reads of lines that it encrypted.
 fn text_of(alloc: Global, p: &Params, lines: &[ValueLine]) -> Result<String, Fail>
     requires accepted { Accepts p.now }
     requires values { AreValues lines.now }
@@ -67,7 +67,7 @@ fn text_of(alloc: Global, p: &Params, lines: &[ValueLine]) -> Result<String, Fai
     Ok(decrypt_items(alloc, p, &key, &items)?)
 }
 
-// An item with another degree in its first block.
+/// An item with another degree in its first block.
 fn with_degree(p: &Params, item: Item, degree: u8) -> Item
     requires item { IsItem p.now item }
     requires degree { degree ≤ greatest item.kind p.now.message_bits }

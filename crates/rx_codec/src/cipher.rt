@@ -76,7 +76,8 @@ fn read_items(
     count: u32,
 ) -> Result<Vec<Item>, CodecFault>
     requires { Accepts params.now }
-    ensures value { GivesAt (λ items. items.items) reader.new.at result (items_at params.now count [] reader.old.file reader.old.at) }
+    ensures value { GivesAt (λ items. items.items) reader.new.at result
+        (items_at params.now count [] reader.old.file reader.old.at) }
     ensures file { reader.new.file ≡ reader.old.file }
 {
     let mut items = Vec::new(alloc);
@@ -95,7 +96,8 @@ fn read_item(
     before: &[Item],
 ) -> Result<Item, CodecFault>
     requires { Accepts params.now }
-    ensures value { GivesAt (λ item. item) reader.new.at result (item_at params.now before.now reader.old.file reader.old.at) }
+    ensures value { GivesAt (λ item. item) reader.new.at result
+        (item_at params.now before.now reader.old.file reader.old.at) }
     ensures file { reader.new.file ≡ reader.old.file }
 {
     let name = read_name(reader, before)?;
@@ -112,7 +114,8 @@ fn read_item(
 
 #[tactic(auto, unfolding(crate::specs::NamedFields::name_at))]
 fn read_name(reader: &mut Reader, before: &[Item]) -> Result<Name, CodecFault>
-    ensures value { GivesExactlyAt (λ name. name) reader.new.at result (name_at (λ name. item_has_name name before.now) reader.old.file reader.old.at) }
+    ensures value { GivesExactlyAt (λ name. name) reader.new.at result
+        (name_at (λ name. item_has_name name before.now) reader.old.file reader.old.at) }
     ensures file { reader.new.file ≡ reader.old.file }
 {
     let size = read_name_size(reader)?;
@@ -136,7 +139,8 @@ fn read_blocks(
     count: u32,
 ) -> Result<Vec<Block>, CodecFault>
     requires { Accepts params.now }
-    ensures value { GivesAt (λ blocks. blocks.items) reader.new.at result (blocks_at params.now kind count [] reader.old.file reader.old.at) }
+    ensures value { GivesAt (λ blocks. blocks.items) reader.new.at result
+        (blocks_at params.now kind count [] reader.old.file reader.old.at) }
     ensures file { reader.new.file ≡ reader.old.file }
 {
     let mut blocks = Vec::new(alloc);
@@ -155,7 +159,8 @@ fn read_block(
     kind: Kind,
 ) -> Result<Block, CodecFault>
     requires { Accepts params.now }
-    ensures value { GivesAt (λ block. block) reader.new.at result (block_at params.now kind reader.old.file reader.old.at) }
+    ensures value { GivesAt (λ block. block) reader.new.at result
+        (block_at params.now kind reader.old.file reader.old.at) }
     ensures file { reader.new.file ≡ reader.old.file }
 {
     let at = reader.at();

@@ -30,7 +30,3 @@ pub use server::{decode_server, encode_server};
 
 #[cfg(test)]
 mod tests;
-#[cfg(test)]
-mod tests_net;
-#[cfg(test)]
-mod tests_server;

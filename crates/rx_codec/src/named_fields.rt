@@ -12,7 +12,8 @@ use std::alloc::AllocError;
 /// The length of a name in bytes, 1 to 32, which follow.
 #[tactic(auto, unfolding(crate::specs::NamedFields::name_size_at))]
 pub fn read_name_size(reader: &mut Reader) -> Result<usize, CodecFault>
-    ensures value { GivesExactlyAt (λ size. size) reader.new.at result (name_size_at reader.old.file reader.old.at) }
+    ensures value { GivesExactlyAt (λ size. size) reader.new.at result
+        (name_size_at reader.old.file reader.old.at) }
     ensures few { IfOk result (λ size. size ≤ 32) }
     ensures file { reader.new.file ≡ reader.old.file }
 {
@@ -24,7 +25,8 @@ pub fn read_name_size(reader: &mut Reader) -> Result<usize, CodecFault>
 
 /// The name that the text at a place is. The text is refused where it is none, or where it is taken.
 pub fn new_name(text: &[u8], is_taken: bool, at: u64) -> Result<Name, CodecFault>
-    ensures { GivesExactly (λ name. name) result (field_in_range (is_name text.now && not is_taken) at text.now) }
+    ensures { GivesExactly (λ name. name) result
+        (field_in_range (is_name text.now && not is_taken) at text.now) }
 {
     match Name::of(text) {
         Some(name) if !is_taken => Ok(name),
@@ -36,7 +38,8 @@ pub fn new_name(text: &[u8], is_taken: bool, at: u64) -> Result<Name, CodecFault
 #[tactic(auto, unfolding(crate::specs::NamedFields::form_at))]
 pub fn read_form(reader: &mut Reader, message_bits: u32) -> Result<(Kind, u32), CodecFault>
     requires { (message_bits ≡ 2) ⊎ (message_bits ≡ 3) }
-    ensures value { GivesExactlyAt (λ form. (form.0, form.1)) reader.new.at result (form_at message_bits reader.old.file reader.old.at) }
+    ensures value { GivesExactlyAt (λ form. (form.0, form.1)) reader.new.at result
+        (form_at message_bits reader.old.file reader.old.at) }
     ensures file { reader.new.file ≡ reader.old.file }
 {
     let at = reader.at();

@@ -38,7 +38,8 @@ pub fn read_spelled(alloc: Global, bytes: &[u8]) -> Result<Net, CodecFault>
 
 #[tactic(auto, unfolding(crate::specs::NetFile::space_at))]
 fn read_space(reader: &mut Reader) -> Result<u32, CodecFault>
-    ensures value { GivesExactlyAt (λ space. space) reader.new.at result (space_at reader.old.file reader.old.at) }
+    ensures value { GivesExactlyAt (λ space. space) reader.new.at result
+        (space_at reader.old.file reader.old.at) }
     ensures space { IfOk result (λ space. (space ≡ 2) ⊎ (space ≡ 3)) }
     ensures file { reader.new.file ≡ reader.old.file }
 {
@@ -53,7 +54,8 @@ fn read_space(reader: &mut Reader) -> Result<u32, CodecFault>
 #[tactic(auto, unfolding(crate::specs::NetFile::lists_at))]
 fn read_lists(alloc: Global, reader: &mut Reader, space: u32) -> Result<Net, CodecFault>
     requires { (space ≡ 2) ⊎ (space ≡ 3) }
-    ensures value { GivesAt (λ net. net) reader.new.at result (lists_at space reader.old.file reader.old.at) }
+    ensures value { GivesAt (λ net. net) reader.new.at result
+        (lists_at space reader.old.file reader.old.at) }
     ensures file { reader.new.file ≡ reader.old.file }
 {
     let inputs = read_inputs(alloc, reader, space)?;
@@ -70,7 +72,8 @@ fn read_lists(alloc: Global, reader: &mut Reader, space: u32) -> Result<Net, Cod
 #[tactic(auto, unfolding(crate::specs::Reading::list_at))]
 fn read_inputs(alloc: Global, reader: &mut Reader, space: u32) -> Result<NetInputs, CodecFault>
     requires { (space ≡ 2) ⊎ (space ≡ 3) }
-    ensures value { GivesAt (λ inputs. inputs) reader.new.at result (list_at w16 64 (input_at space) reader.old.file reader.old.at) }
+    ensures value { GivesAt (λ inputs. inputs) reader.new.at result
+        (list_at w16 64 (input_at space) reader.old.file reader.old.at) }
     ensures file { reader.new.file ≡ reader.old.file }
 {
     let count = reader.u16_at_most(MOST_NUMBERS)?;
@@ -85,7 +88,8 @@ fn read_each_input(
     count: u16,
 ) -> Result<Vec<NetInput>, CodecFault>
     requires { (space ≡ 2) ⊎ (space ≡ 3) }
-    ensures value { GivesAt (λ inputs. inputs.items) reader.new.at result (many_at (input_at space) count [] reader.old.file reader.old.at) }
+    ensures value { GivesAt (λ inputs. inputs.items) reader.new.at result
+        (many_at (input_at space) count [] reader.old.file reader.old.at) }
     ensures file { reader.new.file ≡ reader.old.file }
 {
     let mut inputs = Vec::new(alloc);
@@ -99,7 +103,8 @@ fn read_each_input(
 #[tactic(auto, unfolding(crate::specs::NetFile::input_at))]
 fn read_input(reader: &mut Reader, space: u32, before: &[NetInput]) -> Result<NetInput, CodecFault>
     requires { (space ≡ 2) ⊎ (space ≡ 3) }
-    ensures value { GivesExactlyAt (λ input. input) reader.new.at result (input_at space before.now reader.old.file reader.old.at) }
+    ensures value { GivesExactlyAt (λ input. input) reader.new.at result
+        (input_at space before.now reader.old.file reader.old.at) }
     ensures file { reader.new.file ≡ reader.old.file }
 {
     let name = read_input_name(reader, before)?;
@@ -121,7 +126,8 @@ fn read_input(reader: &mut Reader, space: u32, before: &[NetInput]) -> Result<Ne
 
 #[tactic(auto, unfolding(crate::specs::NamedFields::name_at))]
 fn read_input_name(reader: &mut Reader, before: &[NetInput]) -> Result<Name, CodecFault>
-    ensures value { GivesExactlyAt (λ name. name) reader.new.at result (name_at (λ name. has_input name before.now) reader.old.file reader.old.at) }
+    ensures value { GivesExactlyAt (λ name. name) reader.new.at result
+        (name_at (λ name. has_input name before.now) reader.old.file reader.old.at) }
     ensures file { reader.new.file ≡ reader.old.file }
 {
     let size = read_name_size(reader)?;
@@ -140,7 +146,8 @@ fn names_input(name: &[u8], inputs: &[NetInput]) -> bool
 #[tactic(auto, unfolding(crate::specs::Reading::list_at))]
 fn read_jobs(alloc: Global, reader: &mut Reader, space: u32) -> Result<Jobs, CodecFault>
     requires { (space ≡ 2) ⊎ (space ≡ 3) }
-    ensures value { GivesAt (λ jobs. jobs) reader.new.at result (list_at w32 (2 ^ 16) (λ before. job_at space) reader.old.file reader.old.at) }
+    ensures value { GivesAt (λ jobs. jobs) reader.new.at result
+        (list_at w32 (2 ^ 16) (λ before. job_at space) reader.old.file reader.old.at) }
     ensures file { reader.new.file ≡ reader.old.file }
 {
     let count = reader.u32_at_most(MOST_JOBS)?;
@@ -155,7 +162,8 @@ fn read_each_job(
     count: u32,
 ) -> Result<Vec<Job>, CodecFault>
     requires { (space ≡ 2) ⊎ (space ≡ 3) }
-    ensures value { GivesAt (λ jobs. jobs.items) reader.new.at result (many_at (λ before. job_at space) count [] reader.old.file reader.old.at) }
+    ensures value { GivesAt (λ jobs. jobs.items) reader.new.at result
+        (many_at (λ before. job_at space) count [] reader.old.file reader.old.at) }
     ensures file { reader.new.file ≡ reader.old.file }
 {
     let mut jobs = Vec::new(alloc);
@@ -169,7 +177,8 @@ fn read_each_job(
 #[tactic(auto, unfolding(crate::specs::NetFile::job_at))]
 fn read_job(alloc: Global, reader: &mut Reader, space: u32) -> Result<Job, CodecFault>
     requires { (space ≡ 2) ⊎ (space ≡ 3) }
-    ensures value { GivesAt (λ job. job) reader.new.at result (job_at space reader.old.file reader.old.at) }
+    ensures value { GivesAt (λ job. job) reader.new.at result
+        (job_at space reader.old.file reader.old.at) }
     ensures file { reader.new.file ≡ reader.old.file }
 {
     let terms = read_terms(alloc, reader)?;
@@ -186,7 +195,8 @@ fn read_job(alloc: Global, reader: &mut Reader, space: u32) -> Result<Job, Codec
 
 #[tactic(auto, unfolding(crate::specs::Reading::list_at))]
 fn read_terms(alloc: Global, reader: &mut Reader) -> Result<Terms, CodecFault>
-    ensures value { GivesAt (λ terms. terms) reader.new.at result (list_at w8 16 (λ before. term_at) reader.old.file reader.old.at) }
+    ensures value { GivesAt (λ terms. terms) reader.new.at result
+        (list_at w8 16 (λ before. term_at) reader.old.file reader.old.at) }
     ensures file { reader.new.file ≡ reader.old.file }
 {
     let count = reader.u8_at_most(MOST_TERMS)?;
@@ -195,7 +205,8 @@ fn read_terms(alloc: Global, reader: &mut Reader) -> Result<Terms, CodecFault>
 }
 
 fn read_each_term(alloc: Global, reader: &mut Reader, count: u8) -> Result<Vec<Term>, CodecFault>
-    ensures value { GivesAt (λ terms. terms.items) reader.new.at result (many_at (λ before. term_at) count [] reader.old.file reader.old.at) }
+    ensures value { GivesAt (λ terms. terms.items) reader.new.at result
+        (many_at (λ before. term_at) count [] reader.old.file reader.old.at) }
     ensures file { reader.new.file ≡ reader.old.file }
 {
     let mut terms = Vec::new(alloc);
@@ -208,7 +219,8 @@ fn read_each_term(alloc: Global, reader: &mut Reader, count: u8) -> Result<Vec<T
 
 #[tactic(auto, unfolding(crate::specs::NetFile::term_at))]
 fn read_term(reader: &mut Reader) -> Result<Term, CodecFault>
-    ensures value { GivesExactlyAt (λ term. term) reader.new.at result (term_at reader.old.file reader.old.at) }
+    ensures value { GivesExactlyAt (λ term. term) reader.new.at result
+        (term_at reader.old.file reader.old.at) }
     ensures file { reader.new.file ≡ reader.old.file }
 {
     let cell = reader.u32()?;
@@ -219,7 +231,8 @@ fn read_term(reader: &mut Reader) -> Result<Term, CodecFault>
 #[tactic(auto, unfolding(crate::specs::Reading::list_at))]
 fn read_outputs(alloc: Global, reader: &mut Reader, space: u32) -> Result<NetOutputs, CodecFault>
     requires { (space ≡ 2) ⊎ (space ≡ 3) }
-    ensures value { GivesAt (λ outputs. outputs) reader.new.at result (list_at w16 64 (output_at space) reader.old.file reader.old.at) }
+    ensures value { GivesAt (λ outputs. outputs) reader.new.at result
+        (list_at w16 64 (output_at space) reader.old.file reader.old.at) }
     ensures file { reader.new.file ≡ reader.old.file }
 {
     let count = reader.u16_at_most(MOST_NUMBERS)?;
@@ -234,7 +247,8 @@ fn read_each_output(
     count: u16,
 ) -> Result<Vec<NetOutput>, CodecFault>
     requires { (space ≡ 2) ⊎ (space ≡ 3) }
-    ensures value { GivesAt (λ outputs. outputs.items) reader.new.at result (many_at (output_at space) count [] reader.old.file reader.old.at) }
+    ensures value { GivesAt (λ outputs. outputs.items) reader.new.at result
+        (many_at (output_at space) count [] reader.old.file reader.old.at) }
     ensures file { reader.new.file ≡ reader.old.file }
 {
     let mut outputs = Vec::new(alloc);
@@ -253,7 +267,8 @@ fn read_output(
     before: &[NetOutput],
 ) -> Result<NetOutput, CodecFault>
     requires { (space ≡ 2) ⊎ (space ≡ 3) }
-    ensures value { GivesAt (λ output. output) reader.new.at result (output_at space before.now reader.old.file reader.old.at) }
+    ensures value { GivesAt (λ output. output) reader.new.at result
+        (output_at space before.now reader.old.file reader.old.at) }
     ensures file { reader.new.file ≡ reader.old.file }
 {
     let name = read_output_name(reader, before)?;
@@ -269,7 +284,8 @@ fn read_output(
 
 #[tactic(auto, unfolding(crate::specs::NamedFields::name_at))]
 fn read_output_name(reader: &mut Reader, before: &[NetOutput]) -> Result<Name, CodecFault>
-    ensures value { GivesExactlyAt (λ name. name) reader.new.at result (name_at (λ name. has_output name before.now) reader.old.file reader.old.at) }
+    ensures value { GivesExactlyAt (λ name. name) reader.new.at result
+        (name_at (λ name. has_output name before.now) reader.old.file reader.old.at) }
     ensures file { reader.new.file ≡ reader.old.file }
 {
     let size = read_name_size(reader)?;
@@ -286,7 +302,8 @@ fn names_output(name: &[u8], outputs: &[NetOutput]) -> bool
 }
 
 fn read_cells(alloc: Global, reader: &mut Reader, count: u32) -> Result<Vec<u32>, CodecFault>
-    ensures value { GivesAt (λ cells. cells.items) reader.new.at result (many_at (λ before. number_at w32) count [] reader.old.file reader.old.at) }
+    ensures value { GivesAt (λ cells. cells.items) reader.new.at result
+        (many_at (λ before. number_at w32) count [] reader.old.file reader.old.at) }
     ensures file { reader.new.file ≡ reader.old.file }
 {
     let mut cells = Vec::new(alloc);

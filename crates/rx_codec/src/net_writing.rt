@@ -16,7 +16,8 @@ use std::alloc::AllocError;
 /// Adds the number of the inputs, and the inputs.
 pub fn write_inputs(out: &mut Vec<u8>, inputs: &[NetInput]) -> Result<(), AllocError>
     requires few { length inputs.now ≤ 64 }
-    requires short { AllByRecursion (λ (i : NetInput). (length i.name ≤ 32) × (i.bits ≤ 64)) inputs.now }
+    requires short { AllByRecursion (λ (i : NetInput). (length i.name ≤ 32)
+        × (i.bits ≤ 64)) inputs.now }
     ensures { OnOk result (out.new.items ≡ out.old.items ++ list_bytes w16 input_bytes inputs.now) }
 {
     out.extend_from_slice(&(inputs.len() as u16).to_le_bytes())?;
@@ -54,7 +55,8 @@ fn write_job(out: &mut Vec<u8>, job: &Job) -> Result<(), AllocError>
 
 fn write_terms(out: &mut Vec<u8>, terms: &[Term]) -> Result<(), AllocError>
     requires { length terms.now ≤ 16 }
-    ensures { OnOk result (out.new.items ≡ out.old.items ++ (length terms.now ∷ flat_map term_bytes terms.now)) }
+    ensures { OnOk result (out.new.items ≡ out.old.items
+        ++ (length terms.now ∷ flat_map term_bytes terms.now)) }
 {
     out.push(terms.len() as u8)?;
     for term in terms {
@@ -67,8 +69,10 @@ fn write_terms(out: &mut Vec<u8>, terms: &[Term]) -> Result<(), AllocError>
 /// Adds the number of the outputs, and the outputs.
 pub fn write_outputs(out: &mut Vec<u8>, outputs: &[NetOutput]) -> Result<(), AllocError>
     requires few { length outputs.now ≤ 64 }
-    requires short { AllByRecursion (λ (o : NetOutput). (length o.name ≤ 32) × (o.bits ≤ 64)) outputs.now }
-    ensures { OnOk result (out.new.items ≡ out.old.items ++ list_bytes w16 output_bytes outputs.now) }
+    requires short { AllByRecursion (λ (o : NetOutput). (length o.name ≤ 32) × (o.bits ≤ 64))
+        outputs.now }
+    ensures { OnOk result (out.new.items ≡ out.old.items
+        ++ list_bytes w16 output_bytes outputs.now) }
 {
     out.extend_from_slice(&(outputs.len() as u16).to_le_bytes())?;
     for output in outputs {

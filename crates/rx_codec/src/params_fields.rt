@@ -12,7 +12,8 @@ use std::alloc::AllocError;
 
 #[tactic(auto, unfolding(crate::specs::ParamsFields::fields_at))]
 fn read_fields(reader: &mut Reader) -> Result<Params, CodecFault>
-    ensures value { GivesExactlyAt (λ p. p) reader.new.at result (fields_at reader.old.file reader.old.at) }
+    ensures value { GivesExactlyAt (λ p. p) reader.new.at result
+        (fields_at reader.old.file reader.old.at) }
     ensures file { reader.new.file ≡ reader.old.file }
 {
     Ok(Params {
@@ -32,7 +33,8 @@ fn read_fields(reader: &mut Reader) -> Result<Params, CodecFault>
 /// The set that stands where the reader is, once all ten fields were read.
 #[tactic(auto, unfolding(crate::specs::ParamsFields::params_at))]
 pub fn read_params(reader: &mut Reader) -> Result<Params, CodecFault>
-    ensures value { GivesExactlyAt (λ p. p) reader.new.at result (params_at reader.old.file reader.old.at) }
+    ensures value { GivesExactlyAt (λ p. p) reader.new.at result
+        (params_at reader.old.file reader.old.at) }
     ensures file { reader.new.file ≡ reader.old.file }
     ensures accepted { IfOk result Accepts }
 {

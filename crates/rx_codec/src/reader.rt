@@ -50,7 +50,8 @@ impl<'a> Reader<'a> {
     /// A field of so many bytes.
     pub fn bytes(&mut self, count: usize) -> Result<&'a [u8], CodecFault>
         requires { count < 2 ^ 32 }
-        ensures value { GivesExactlyAt (λ bytes. bytes.now) self.new.at result (bytes_at self.old.file count self.old.at) }
+        ensures value { GivesExactlyAt (λ bytes. bytes.now) self.new.at result
+            (bytes_at self.old.file count self.old.at) }
         ensures file { self.new.file ≡ self.old.file }
     {
         let end = self.at + count;
@@ -67,7 +68,8 @@ impl<'a> Reader<'a> {
 
     /// A number of one byte.
     pub fn u8(&mut self) -> Result<u8, CodecFault>
-        ensures value { GivesExactlyAt (λ n. n) self.new.at result (number_at w8 self.old.file self.old.at) }
+        ensures value { GivesExactlyAt (λ n. n) self.new.at result
+            (number_at w8 self.old.file self.old.at) }
         ensures file { self.new.file ≡ self.old.file }
     {
         let bytes = self.bytes(1)?;
@@ -76,7 +78,8 @@ impl<'a> Reader<'a> {
 
     /// A number of two bytes.
     pub fn u16(&mut self) -> Result<u16, CodecFault>
-        ensures value { GivesExactlyAt (λ n. n) self.new.at result (number_at w16 self.old.file self.old.at) }
+        ensures value { GivesExactlyAt (λ n. n) self.new.at result
+            (number_at w16 self.old.file self.old.at) }
         ensures file { self.new.file ≡ self.old.file }
     {
         let bytes = self.bytes(2)?;
@@ -85,7 +88,8 @@ impl<'a> Reader<'a> {
 
     /// A number of one byte and of either sign.
     pub fn i8(&mut self) -> Result<i8, CodecFault>
-        ensures value { GivesExactlyAt (λ n. n) self.new.at result (signed_at w8 self.old.file self.old.at) }
+        ensures value { GivesExactlyAt (λ n. n) self.new.at result
+            (signed_at w8 self.old.file self.old.at) }
         ensures file { self.new.file ≡ self.old.file }
     {
         Ok(self.u8()?.cast_signed())
@@ -93,7 +97,8 @@ impl<'a> Reader<'a> {
 
     /// A number of two bytes and of either sign.
     pub fn i16(&mut self) -> Result<i16, CodecFault>
-        ensures value { GivesExactlyAt (λ n. n) self.new.at result (signed_at w16 self.old.file self.old.at) }
+        ensures value { GivesExactlyAt (λ n. n) self.new.at result
+            (signed_at w16 self.old.file self.old.at) }
         ensures file { self.new.file ≡ self.old.file }
     {
         Ok(self.u16()?.cast_signed())
@@ -101,7 +106,8 @@ impl<'a> Reader<'a> {
 
     /// A number of four bytes.
     pub fn u32(&mut self) -> Result<u32, CodecFault>
-        ensures value { GivesExactlyAt (λ n. n) self.new.at result (number_at w32 self.old.file self.old.at) }
+        ensures value { GivesExactlyAt (λ n. n) self.new.at result
+            (number_at w32 self.old.file self.old.at) }
         ensures file { self.new.file ≡ self.old.file }
     {
         let bytes = self.bytes(4)?;
@@ -111,7 +117,8 @@ impl<'a> Reader<'a> {
     /// A number of one byte that is at most `most`.
     #[tactic(auto, unfolding(crate::specs::Reading::count_at))]
     pub fn u8_at_most(&mut self, most: u8) -> Result<u8, CodecFault>
-        ensures value { GivesExactlyAt (λ n. n) self.new.at result (count_at w8 most self.old.file self.old.at) }
+        ensures value { GivesExactlyAt (λ n. n) self.new.at result
+            (count_at w8 most self.old.file self.old.at) }
         ensures file { self.new.file ≡ self.old.file }
     {
         let at = self.at();
@@ -123,7 +130,8 @@ impl<'a> Reader<'a> {
     /// A number of two bytes that is at most `most`.
     #[tactic(auto, unfolding(crate::specs::Reading::count_at))]
     pub fn u16_at_most(&mut self, most: u16) -> Result<u16, CodecFault>
-        ensures value { GivesExactlyAt (λ n. n) self.new.at result (count_at w16 most self.old.file self.old.at) }
+        ensures value { GivesExactlyAt (λ n. n) self.new.at result
+            (count_at w16 most self.old.file self.old.at) }
         ensures file { self.new.file ≡ self.old.file }
     {
         let at = self.at();
@@ -135,7 +143,8 @@ impl<'a> Reader<'a> {
     /// A number of four bytes that is at most `most`.
     #[tactic(auto, unfolding(crate::specs::Reading::count_at))]
     pub fn u32_at_most(&mut self, most: u32) -> Result<u32, CodecFault>
-        ensures value { GivesExactlyAt (λ n. n) self.new.at result (count_at w32 most self.old.file self.old.at) }
+        ensures value { GivesExactlyAt (λ n. n) self.new.at result
+            (count_at w32 most self.old.file self.old.at) }
         ensures file { self.new.file ≡ self.old.file }
     {
         let at = self.at();
@@ -148,7 +157,8 @@ impl<'a> Reader<'a> {
     #[tactic(auto, unfolding(crate::specs::WordFields::words_at))]
     pub fn words(&mut self, alloc: Global, count: usize) -> Result<Vec<u64>, CodecFault>
         requires { count < 2 ^ 24 }
-        ensures value { GivesAt (λ words. words.items) self.new.at result (words_at count self.old.file self.old.at) }
+        ensures value { GivesAt (λ words. words.items) self.new.at result
+            (words_at count self.old.file self.old.at) }
         ensures file { self.new.file ≡ self.old.file }
     {
         let bytes = self.bytes(8 * count)?;

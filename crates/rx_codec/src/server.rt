@@ -17,7 +17,7 @@ use rx_params::Params;
 use rx_torus::Words;
 use std::alloc::{AllocError, Global};
 
-// The magic and the fields of the set.
+/// The magic and the fields of the set.
 const HEAD_SIZE: usize = 44;
 
 /// The server key that a file spells, or its first fault.
@@ -29,7 +29,7 @@ pub fn decode_server(alloc: Global, bytes: &[u8]) -> Result<ServerKey, CodecFaul
     read_server(alloc, bytes)
 }
 
-// The file is read to its end before memory is taken for the words.
+/// The file is read to its end before memory is taken for the words.
 #[tactic(auto, unfolding(crate::specs::ServerFile::server_from, crate::specs::WordFields::words_at))]
 fn read_server(alloc: Global, bytes: &[u8]) -> Result<ServerKey, CodecFault>
     ensures { Gives (λ k. k) result (server_from bytes.now) }
@@ -41,7 +41,7 @@ fn read_server(alloc: Global, bytes: &[u8]) -> Result<ServerKey, CodecFault>
     Ok(key_in(alloc, &params, words)?)
 }
 
-// The key of a set whose words these bytes are: each list is made from its own part of them.
+/// The key of a set whose words these bytes are: each list is made from its own part of them.
 fn key_in(alloc: Global, p: &Params, bytes: &[u8]) -> Result<ServerKey, AllocError>
     requires accepted { Accepts p.now }
     requires size { length bytes.now ≡ 8 * key_words_of p.now }

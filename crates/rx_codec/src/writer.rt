@@ -8,7 +8,8 @@ use std::alloc::AllocError;
 
 /// Adds numbers, four bytes each.
 pub fn write_numbers(out: &mut Vec<u8>, numbers: &[u32]) -> Result<(), AllocError>
-    ensures { OnOk result (out.new.items ≡ out.old.items ++ flat_map (to_le_bytes w32) numbers.now) }
+    ensures { OnOk result (out.new.items ≡ out.old.items
+        ++ flat_map (to_le_bytes w32) numbers.now) }
 {
     for number in numbers {
         out.extend_from_slice(&number.to_le_bytes())?;

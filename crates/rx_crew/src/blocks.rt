@@ -11,7 +11,7 @@ use rx_params::Params;
 use rx_torus::Words;
 use std::alloc::{AllocError, Global};
 
-// A block of zeros.
+/// A block of zeros.
 fn zero_block(alloc: Global, p: &Params) -> Result<Block, AllocError>
     requires { FieldsInRange p.now }
     ensures { IfOk result (λ block. block ≡ zero_block p.now) }
@@ -24,7 +24,7 @@ fn zero_block(alloc: Global, p: &Params) -> Result<Block, AllocError>
     })
 }
 
-// So many blocks of zeros.
+/// So many blocks of zeros.
 pub(crate) fn zero_blocks(alloc: Global, p: &Params, count: usize) -> Result<Vec<Block>, AllocError>
     requires { FieldsInRange p.now }
     ensures { IfOk result (λ blocks. blocks.items ≡ replicate count (zero_block p.now)) }
@@ -44,7 +44,7 @@ fn copy_words(from: &[u64], to: &mut [u64])
     to.copy_from_slice(from);
 }
 
-// Writes a block over one of as many words.
+/// Writes a block over one of as many words.
 fn copy_block(from: &Block, to: &mut Block)
     requires { length from.now.words ≡ length to.old.words }
     ensures copied { to.new ≡ from.now }
@@ -55,7 +55,7 @@ fn copy_block(from: &Block, to: &mut Block)
     to.noise = from.noise;
 }
 
-// Writes blocks over the first ones of the others.
+/// Writes blocks over the first ones of the others.
 pub(crate) fn copy_blocks(p: &Params, from: &[Block], to: &mut [Block])
     requires room { length from.now ≤ length to.old }
     requires sizes { AreBlocksOf p.now from.now }
@@ -68,7 +68,7 @@ pub(crate) fn copy_blocks(p: &Params, from: &[Block], to: &mut [Block])
     }
 }
 
-// Writes the blocks of these numbers over the others, which are as many as the numbers.
+/// Writes the blocks of these numbers over the others, which are as many as the numbers.
 pub(crate) fn copy_numbered(p: &Params, from: &[Block], numbers: &[u32], to: &mut [Block])
     requires count { length numbers.now ≡ length to.old }
     requires there { AllByRecursion (λ c. c < length from.now) numbers.now }

@@ -13,8 +13,8 @@ use rx_block::{Block, mix_into};
 use rx_boot::{BootScratch, ServerKey, bootstrap_into};
 use rx_net::{Job, Net};
 
-// Runs all jobs of a legal net in order: the blocks of the inputs stand in the first cells, and each job
-// writes the cell that follows those before it. A weighted sum has its place in `sum`.
+/// Runs all jobs of a legal net in order: the blocks of the inputs stand in the first cells, and each job
+/// writes the cell that follows those before it. A weighted sum has its place in `sum`.
 pub(crate) fn run_jobs(
     scratch: &mut BootScratch,
     key: &ServerKey,
@@ -40,7 +40,7 @@ pub(crate) fn run_jobs(
     }
 }
 
-// Runs a job whose terms name cells before the place of its own.
+/// Runs a job whose terms name cells before the place of its own.
 fn run_job(
     scratch: &mut BootScratch,
     key: &ServerKey,
@@ -56,7 +56,8 @@ fn run_job(
     requires forward { AreCellsOf (take place cells.old) job.now.terms }
     requires sizes { AreBlocksOf key.now.params cells.old }
     requires sum_size { length sum.old ≡ large_dim key.now.params + 1 }
-    ensures cells { cells.new ≡ set cells.old place (job_block key.now job.now (take place cells.old)) }
+    ensures cells { cells.new ≡ set cells.old place
+        (job_block key.now job.now (take place cells.old)) }
     ensures room_stays { scratch.new ≡ key.now.params }
 {
     let (earlier, later) = cells.split_at_mut(place);
@@ -70,13 +71,18 @@ fn run_job(
     look_up(scratch, key, job, sum, &mut later[0]);
 }
 
-// Writes the block that a job's table gives at a weighted sum.
+/// Writes the block that a job's table gives at a weighted sum.
 fn look_up(scratch: &mut BootScratch, key: &ServerKey, job: &Job, sum: &[u64], cell: &mut Block)
     requires room { scratch.old ≡ key.now.params }
     requires table { length job.now.table ≡ plaintexts key.now.params.message_bits }
     requires sum_size { length sum.now ≡ large_dim key.now.params + 1 }
     requires size { length cell.old.words ≡ large_dim key.now.params + 1 }
-    ensures cell { cell.new ≡ record { words = bootstrapped key.now job.now.table sum.now; degree = job.now.degree; noise = 1 } }
+    ensures cell { cell.new ≡ record {
+      words = bootstrapped key.now job.now.table sum.now;
+      degree =
+          job.now.degree;
+      noise = 1;
+    } }
     ensures room_stays { scratch.new ≡ key.now.params }
 {
     let words = cell.words.as_mut_slice();

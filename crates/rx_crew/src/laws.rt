@@ -24,7 +24,7 @@ pub fn keeping_laws()
     keeps_laws();
 }
 
-// The same of a server key that is there: its set is accepted, and it has the rows of its set.
+/// The same of a server key that is there: its set is accepted, and it has the rows of its set.
 pub(crate) fn cells_keep(key: &ServerKey, net: &Net, inputs: &[Block])
     requires legal { Legal net.now }
     requires space { net.now.space ≡ key.now.params.message_bits }

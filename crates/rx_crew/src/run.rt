@@ -48,12 +48,15 @@ pub fn run_net<R: Threads + Sync, G: Gate + Sync>(
     requires workers_low { 1 ≤ workers }
     requires workers_high { workers ≤ 64 }
     requires board { board_words key.now.params net.now ≤ board_limit }
-    ensures outputs { IfOk result (λ report. report.outputs.items ≡ output_blocks (evaluated key.now net.now inputs.now) net.now.outputs) }
+    ensures outputs { IfOk result (λ report.
+        report.outputs.items ≡ output_blocks (evaluated key.now net.now inputs.now)
+        net.now.outputs) }
     ensures sizes { IfOk result (λ report. AreBlocksOf key.now.params report.outputs.items) }
     ensures words { IfOk result (λ report. AreWordsOf report.outputs.items) }
     ensures counted { IfOk result (λ report. report.ran + report.finished ≡ length net.now.jobs) }
     ensures cells_keep { KeepsCells key.now net.now inputs.now }
-    ensures outputs_keep { IfOk result (λ report. KeepsOutputs key.now net.now inputs.now report.outputs.items) }
+    ensures outputs_keep { IfOk result (λ report.
+        KeepsOutputs key.now net.now inputs.now report.outputs.items) }
 {
     cells_keep(key, net, inputs);
     let p = key.params();
@@ -81,7 +84,7 @@ pub fn run_net<R: Threads + Sync, G: Gate + Sync>(
     })
 }
 
-// The cells of all outputs, one output after another.
+/// The cells of all outputs, one output after another.
 fn output_cells(alloc: Global, outputs: &[NetOutput]) -> Result<Vec<u32>, AllocError>
     ensures { IfOk result (λ numbers. numbers.items ≡ numbers_of outputs.now) }
 {
@@ -92,8 +95,8 @@ fn output_cells(alloc: Global, outputs: &[NetOutput]) -> Result<Vec<u32>, AllocE
     Ok(numbers)
 }
 
-// Evaluates a net in cells that have the size of its blocks, and writes the blocks of all outputs, whose
-// cells are numbered. It takes no memory.
+/// Evaluates a net in cells that have the size of its blocks, and writes the blocks of all outputs, whose
+/// cells are numbered. It takes no memory.
 fn evaluate(
     scratch: &mut BootScratch,
     key: &ServerKey,
@@ -114,7 +117,8 @@ fn evaluate(
     requires cell_sizes { AreBlocksOf key.now.params cells.old }
     requires output_count { length outputs.old ≡ length numbers.now }
     requires output_sizes { AreBlocksOf key.now.params outputs.old }
-    ensures outputs { outputs.new ≡ output_blocks (evaluated key.now net.now inputs.now) net.now.outputs }
+    ensures outputs { outputs.new ≡ output_blocks (evaluated key.now net.now inputs.now)
+        net.now.outputs }
     ensures sizes { AreBlocksOf key.now.params outputs.new }
     ensures words { AreWordsOf outputs.new }
 {

@@ -24,7 +24,7 @@ pub(crate) fn write_digits(p: &Params, words: &[u64], out: &mut [i64])
     }
 }
 
-// Writes the digits of one word into the polynomials of `n` coefficients at this place.
+/// Writes the digits of one word into the polynomials of `n` coefficients at this place.
 fn write_column(of_word: &[i64], n: usize, place: usize, out: &mut [i64])
     requires place { place < n }
     requires room { length out.old ≡ length of_word.now * n }

@@ -30,7 +30,8 @@ pub fn external_add(
     requires input { length input.now ≡ glwe_size p.now }
     requires acc { length acc.old ≡ glwe_size p.now }
     ensures added { AreParts p.now.poly_size (p.now.glwe_dim + 1)
-        (λ q i. of_parts p.now.poly_size acc.old q i +ℤ external_of p.now ggsw.now input.now q i) acc.new }
+        (λ q i. of_parts p.now.poly_size acc.old q i +ℤ external_of p.now ggsw.now input.now q i)
+        acc.new }
     ensures room { scratch.new ≡ p.now }
 {
     let digits = scratch.digits.as_mut_slice();
@@ -44,7 +45,7 @@ pub fn external_add(
     }
 }
 
-// Adds, for each level, its polynomial of digits times each polynomial of its row.
+/// Adds, for each level, its polynomial of digits times each polynomial of its row.
 fn levels_add(p: &Params, digits: &[i64], rows: &[u64], acc: &mut [u64], scratch: &mut [u64])
     requires fields { FieldsInRange p.now }
     requires digits { length digits.now ≡ p.now.pbs_level * p.now.poly_size }
@@ -67,7 +68,7 @@ fn levels_add(p: &Params, digits: &[i64], rows: &[u64], acc: &mut [u64], scratch
     }
 }
 
-// Adds a polynomial of small numbers times each polynomial of a row to that of `acc`.
+/// Adds a polynomial of small numbers times each polynomial of a row to that of `acc`.
 fn row_add(count: usize, small: &[i64], row: &[u64], acc: &mut [u64], scratch: &mut [u64])
     requires room { 2 * length small.now ≤ length scratch.old }
     requires row { length row.now ≡ length acc.old }
@@ -76,7 +77,8 @@ fn row_add(count: usize, small: &[i64], row: &[u64], acc: &mut [u64], scratch: &
         (length small.now)
         count
         (λ q i. of_parts (length small.now) acc.old q i
-        +ℤ product (length small.now) (of_numbers small.now) (of_parts (length small.now) row.now q) i)
+        +ℤ product (length small.now) (of_numbers small.now)
+        (of_parts (length small.now) row.now q) i)
         acc.new }
 {
     let n = small.len();

@@ -26,11 +26,12 @@ pub fn extract_into(p: &Params, glwe: &[u64], out: &mut [u64])
     out[count * n] = glwe[count * n];
 }
 
-// Writes what meets each bit of a key polynomial at coefficient 0 of its product with a mask polynomial.
+/// Writes what meets each bit of a key polynomial at coefficient 0 of its product with a mask polynomial.
 fn extract_mask(mask: &[u64], out: &mut [u64])
     requires some { 0 < length mask.now }
     requires same { length mask.now ≡ length out.old }
-    ensures { AreWords (length out.old) (λ i. turned (length out.old) (of_words mask.now) i 0) out.new }
+    ensures { AreWords (length out.old) (λ i. turned (length out.old) (of_words mask.now) i 0)
+        out.new }
 {
     out[0] = mask[0];
     for i in 1..mask.len() {

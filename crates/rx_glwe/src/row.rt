@@ -45,7 +45,7 @@ pub fn encrypt_row_into(
     add_products(count, key.bits(), masks, body, scratch);
 }
 
-// Writes the draws of a stream, in order.
+/// Writes the draws of a stream, in order.
 fn draw_masks(mask: &mut Stream, masks: &mut [u64])
     requires some { 0 < length masks.old }
     ensures drawn { AreWords (length masks.old) (λ i. pos (draw mask.old i)) masks.new }
@@ -56,7 +56,7 @@ fn draw_masks(mask: &mut Stream, masks: &mut [u64])
     }
 }
 
-// Writes a polynomial with a noise added to each coefficient.
+/// Writes a polynomial with a noise added to each coefficient.
 fn draw_noised(noise: &mut Stream, bound: u32, hidden: &[u64], body: &mut [u64])
     requires bound { bound ≤ 40 }
     requires same { length hidden.now ≡ length body.old }
@@ -72,7 +72,7 @@ fn draw_noised(noise: &mut Stream, bound: u32, hidden: &[u64], body: &mut [u64])
     }
 }
 
-// Adds the products of the polynomials of the key and those of the masks to a polynomial.
+/// Adds the products of the polynomials of the key and those of the masks to a polynomial.
 fn add_products(count: usize, bits: &[u64], masks: &[u64], body: &mut [u64], scratch: &mut [u64])
     requires bits { length bits.now ≡ count * length body.old }
     requires binary { EachIndex bits.now (λ i. slice_index bits.now i < 2) }

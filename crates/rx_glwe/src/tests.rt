@@ -8,7 +8,7 @@ use rx_poly::binary_product_add;
 use rx_torus::Stream;
 use std::test::Fail;
 
-// The phase of a row with one mask polynomial.
+/// The phase of a row with one mask polynomial.
 fn phases(key: &SecretKey, row: &[u64; 512]) -> [u64; 256]
     requires { length key.now ≡ 256 }
 {
@@ -58,7 +58,7 @@ fn a_row_hides_a_polynomial(rt: HostRuntime) -> Result<(), Fail> {
     Ok(())
 }
 
-// Each row has the weight of its level as coefficient 0 of the polynomial that it is for.
+/// Each row has the weight of its level as coefficient 0 of the polynomial that it is for.
 #[test]
 fn the_rows_of_weights_give_the_rounded_input(rt: HostRuntime) -> Result<(), Fail> {
     let Some(p) = named("rx-test") else {

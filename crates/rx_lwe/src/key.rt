@@ -12,9 +12,6 @@ use rx_torus::{Stream, StreamKind};
 use std::alloc::{AllocError, Global};
 use std::marker::Model;
 
-#[cfg(test)]
-mod tests;
-
 /// A secret key: one or more bits, each a word of 0 or 1. Contracts see the list of them.
 #[derive(Drop)]
 pub struct SecretKey {
@@ -68,7 +65,7 @@ impl SecretKey {
     }
 }
 
-// Adds the first bits of the stream of a row.
+/// Adds the first bits of the stream of a row.
 fn push_bits(
     bits: &mut Vec<u64>,
     seed: &[u8; 32],
@@ -78,7 +75,8 @@ fn push_bits(
 ) -> Result<(), AllocError>
     ensures { OnOk result
         (bits.new.items
-        ≡ bits.old.items ++ map (λ i. torus_word seed.now (stream_number kind row) i % 2) (range_with_len 0 count)) }
+        ≡ bits.old.items ++ map (λ i. torus_word seed.now (stream_number kind row) i % 2)
+        (range_with_len 0 count)) }
 {
     let mut stream = Stream::new(seed, kind.stream_number(row));
     for _ in 0..count {

@@ -17,3 +17,6 @@ pub use modulus::mod_switch;
 pub use phases::{decode, phase, unit};
 pub use scaled::add_scaled;
 pub use switch::{SwitchKey, switch_into};
+
+#[cfg(test)]
+mod tests;

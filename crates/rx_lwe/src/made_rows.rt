@@ -23,7 +23,8 @@ pub(crate) fn made_words(
     requires small_size { length small.now ≡ p.now.lwe_dim }
     ensures { IfOk
         result
-        (λ words. words.items ≡ switch_key_words p.now large.now small.now mask_seed.now noise_seed.now) }
+        (λ words. words.items ≡ switch_key_words p.now large.now small.now mask_seed.now
+        noise_seed.now) }
 {
     let rows = (p.glwe_dim * p.poly_size * p.ks_level) as usize;
     let mut words = vec![in alloc; 0; rows * (p.lwe_dim as usize + 1)]?;
@@ -31,7 +32,7 @@ pub(crate) fn made_words(
     Ok(words)
 }
 
-// Writes all rows, in order.
+/// Writes all rows, in order.
 fn write_rows(
     p: &Params,
     large: &SecretKey,
@@ -54,7 +55,7 @@ fn write_rows(
     }
 }
 
-// Writes one row: the message is a bit of the large key at the weight of a level.
+/// Writes one row: the message is a bit of the large key at the weight of a level.
 fn write_row(
     p: &Params,
     large: &SecretKey,

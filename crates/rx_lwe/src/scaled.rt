@@ -6,7 +6,8 @@ ghost use Rattle.rx_laws.specs.Words.{of_words, AreWords};
 /// words.
 pub fn add_scaled(acc: &mut [u64], weight: i64, words: &[u64])
     requires { length words.now ≡ length acc.old }
-    ensures { AreWords (length acc.old) (λ i. of_words acc.old i +ℤ weight *ℤ of_words words.now i) acc.new }
+    ensures { AreWords (length acc.old) (λ i. of_words acc.old i +ℤ weight *ℤ of_words words.now i)
+        acc.new }
 {
     let factor = weight.cast_unsigned();
     for i in 0..acc.len() {

@@ -15,9 +15,6 @@ use rx_torus::{Words, digits};
 use std::alloc::{AllocError, Global};
 use std::marker::Model;
 
-#[cfg(test)]
-mod tests;
-
 const MOST_LEVELS: usize = 30;
 
 /// A key that switches ciphertexts from the large key to the small one. For each bit of the large key and
@@ -37,9 +34,23 @@ impl Model for SwitchKey {
 
     ghost Value = { SwitchRows };
 
-    ghost view = { λ k. record { big = k.big; small = k.small; base_log = k.base_log; levels = k.levels; words = k.words } };
+    ghost view = { λ k. record {
+      big = k.big;
+      small = k.small;
+      base_log = k.base_log;
+      levels =
+          k.levels;
+      words = k.words;
+    } };
 
-    ghost invariant = { λ k. IsSized (record { big = k.big; small = k.small; base_log = k.base_log; levels = k.levels; words = k.words }) };
+    ghost invariant = { λ k. IsSized (record {
+      big = k.big;
+      small = k.small;
+      base_log = k.base_log;
+      levels = k.levels;
+      words =
+          k.words;
+    }) };
 }
 
 impl SwitchKey {
@@ -59,7 +70,8 @@ impl SwitchKey {
         requires small_size { length small.now ≡ p.now.lwe_dim }
         ensures made { IfOk
             result
-            (λ key. key ≡ switch_key p.now (switch_key_words p.now large.now small.now mask_seed.now noise_seed.now)) }
+            (λ key. key ≡ switch_key p.now
+            (switch_key_words p.now large.now small.now mask_seed.now noise_seed.now)) }
         ensures near { IfOk
             result
             (λ key. IsSwitch
@@ -100,27 +112,30 @@ impl SwitchKey {
         self.words.as_slice()
     }
 
-    // The words of row (u, t), the body last.
+    /// The words of row (u, t), the body last.
     fn row(&self, u: usize, t: usize) -> &[u64]
         requires place { u < self.now.big }
         requires level { t < self.now.levels }
         ensures size { length result.now ≡ self.now.small + 1 }
-        ensures numbers { (i : ℕ) → i < self.now.small + 1 → of_words result.now i ≡ switch_rows self.now u t i }
+        ensures numbers { (i : ℕ) → i < self.now.small + 1 → of_words result.now i
+            ≡ switch_rows self.now u t i }
     {
         let width = self.small + 1;
         let start = (u * self.levels as usize + t) * width;
         &self.words.as_slice()[start..start + width]
     }
 
-    // Subtracts some digits, one of each level, times the rows of mask place u.
+    /// Subtracts some digits, one of each level, times the rows of mask place u.
     fn subtract_rows(&self, u: usize, digits: &[i64], out: &mut [u64])
         requires place { u < self.now.big }
         requires levels { length digits.now ≡ self.now.levels }
-        requires low { (t : ℕ) → t < length digits.now → neg_ℤ (pos (2 ^ 23)) ≤ℤ get_or digits.now t (pos 0) }
+        requires low { (t : ℕ) → t < length digits.now
+            → neg_ℤ (pos (2 ^ 23)) ≤ℤ get_or digits.now t (pos 0) }
         requires size { length out.old ≡ self.now.small + 1 }
         ensures { AreWords
             (self.now.small + 1)
-            (λ i. of_words out.old i -ℤ sum_to self.now.levels (λ t. of_numbers digits.now t *ℤ switch_rows self.now u t i))
+            (λ i. of_words out.old i -ℤ sum_to self.now.levels (λ t.
+            of_numbers digits.now t *ℤ switch_rows self.now u t i))
             out.new }
     {
         for (t, digit) in digits.iter().enumerate() {
@@ -128,14 +143,15 @@ impl SwitchKey {
         }
     }
 
-    // Subtracts the digits of the word of mask place u times the rows of that place.
+    /// Subtracts the digits of the word of mask place u times the rows of that place.
     fn subtract_word(&self, u: usize, word: u64, out: &mut [u64])
         requires place { u < self.now.big }
         requires size { length out.old ≡ self.now.small + 1 }
         ensures { AreWords
             (self.now.small + 1)
             (λ i. of_words out.old i
-            -ℤ sum_to self.now.levels (λ t. digit self.now.base_log self.now.levels word t *ℤ switch_rows self.now u t i))
+            -ℤ sum_to self.now.levels (λ t.
+            digit self.now.base_log self.now.levels word t *ℤ switch_rows self.now u t i))
             out.new }
     {
         let mut places = [0; MOST_LEVELS];

@@ -174,9 +174,11 @@ pub(crate) fn reach(
     requires few_cells { input_cells space inputs.now ≤ 2048 }
     requires few_jobs { length before.now ≤ 65536 }
     requires few_terms { length terms.now ≤ 16 }
-    ensures fault { TellsFault result (new_fault space inputs.now before.now terms.now constant table.now) }
+    ensures fault { TellsFault result (new_fault space inputs.now before.now terms.now
+        constant table.now) }
     ensures degree { IfOk result (λ reached. reached
-        ≡ reached_of (λ c. get_or (degrees_after space inputs.now before.now) c 0) terms.now constant table.now) }
+        ≡ reached_of (λ c. get_or (degrees_after space inputs.now before.now) c 0) terms.now
+        constant table.now) }
 {
     let job = before.len() as u32;
     let count = input_cells(space, inputs) + job;
@@ -199,7 +201,8 @@ fn check_sum(space: u32, job: u32, sum: TagSums, table: &[u8]) -> Result<u8, Net
     requires space { (space ≡ 2) ⊎ (space ≡ 3) }
     requires order { sum.low ≤ℤ sum.high }
     ensures fault { TellsFault result (sum_fault space job sum.low sum.high sum.noise table.now) }
-    ensures degree { IfOk result (λ reached. reached ≡ greatest_between table.now (natural sum.low) (natural sum.high)) }
+    ensures degree { IfOk result (λ reached.
+        reached ≡ greatest_between table.now (natural sum.low) (natural sum.high)) }
 {
     if sum.low < 0 || sum.high >= i32::from(plaintexts(space)) {
         Err(NetFault::Range {
@@ -222,7 +225,8 @@ fn check_sum(space: u32, job: u32, sum: TagSums, table: &[u8]) -> Result<u8, Net
 /// Whether a table has an entry for each index, and no entry is past the last index.
 fn is_table(space: u32, table: &[u8]) -> bool
     requires { (space ≡ 2) ⊎ (space ≡ 3) }
-    ensures { result ≡ ((length table.now == plaintexts space) && list_all (λ entry. nat_lt entry (plaintexts space)) table.now) }
+    ensures { result ≡ ((length table.now == plaintexts space) && list_all (λ entry.
+        nat_lt entry (plaintexts space)) table.now) }
 {
     let count = plaintexts(space);
     table.len() == usize::from(count) && are_below(count, table)
@@ -236,7 +240,8 @@ fn are_below(limit: u8, entries: &[u8]) -> bool
 
 fn check_outputs(net: &Net) -> Result<(), NetFault>
     requires { WithinLimits net.now }
-    ensures { TellsFault result (first_in_turn (output_fault net.now.space (cell_count net.now) (degree net.now)) [] net.now.outputs) }
+    ensures { TellsFault result (first_in_turn
+        (output_fault net.now.space (cell_count net.now) (degree net.now)) [] net.now.outputs) }
 {
     let outputs = net.outputs.as_slice();
     for (number, output) in outputs.iter().enumerate() {
@@ -252,7 +257,8 @@ fn check_outputs(net: &Net) -> Result<(), NetFault>
 /// Whether an output may follow those before it.
 pub(crate) fn is_output(net: &Net, before: &[NetOutput], output: &NetOutput) -> bool
     requires { WithinLimits net.now }
-    ensures { result ≡ is_output net.now.space (cell_count net.now) (degree net.now) before.now output.now }
+    ensures { result ≡ is_output net.now.space (cell_count net.now) (degree net.now)
+        before.now output.now }
 {
     let cells = output.cells.as_slice();
     let has_form = output.kind.is_form(net.space, output.bits);

@@ -151,8 +151,10 @@ impl NetPen {
     /// `Limit` of field 4, where there are 65,536 jobs already, and of field 5, for more than 16 terms, `Forward`,
     /// `Range`, `Noise` and `Table`.
     pub fn job(&mut self, terms: &[Term], constant: i16, table: &[u8]) -> Result<u32, PenError>
-        ensures added { IfOk result (λ _. self.new ≡ with_job self.old terms.now constant table.now) }
-        ensures adds { IfOk result (λ cell. AddsJob self.old self.new cell terms.now constant table.now) }
+        ensures added { IfOk result (λ _. self.new
+            ≡ with_job self.old terms.now constant table.now) }
+        ensures adds { IfOk result (λ cell.
+            AddsJob self.old self.new cell terms.now constant table.now) }
         ensures fault { Tells result (fault_of (with_job self.old terms.now constant table.now)) }
         ensures unchanged { OnErr result (self.new ≡ self.old) }
     {
@@ -167,9 +169,12 @@ impl NetPen {
     pub fn place(&mut self, terms: &[Term], constant: i16, table: &[u8]) -> Result<u32, AllocError>
         requires room { length self.old.jobs < 65536 }
         requires few { length terms.now ≤ 16 }
-        requires fits { JobFits self.old.space (cell_count self.old) (degree self.old) (noise self.old) terms.now constant table.now }
-        ensures added { IfOk result (λ _. self.new ≡ with_job self.old terms.now constant table.now) }
-        ensures adds { IfOk result (λ cell. AddsJob self.old self.new cell terms.now constant table.now) }
+        requires fits { JobFits self.old.space (cell_count self.old) (degree self.old)
+            (noise self.old) terms.now constant table.now }
+        ensures added { IfOk result (λ _. self.new
+            ≡ with_job self.old terms.now constant table.now) }
+        ensures adds { IfOk result (λ cell.
+            AddsJob self.old self.new cell terms.now constant table.now) }
         ensures unchanged { OnErr result (self.new ≡ self.old) }
     {
         let cell = cell_count(&self.net);
@@ -187,8 +192,12 @@ impl NetPen {
         bits: u32,
         cells: &[u32],
     ) -> Result<(), PenError>
-        ensures added { OnOk result (self.new ≡ with_output self.old (record { name = name; kind = kind; bits = bits; cells = cells.now })) }
-        ensures fault { Tells result (fault_of (with_output self.old (record { name = name; kind = kind; bits = bits; cells = cells.now }))) }
+        ensures added { OnOk result (self.new
+            ≡ with_output self.old (record
+            { name = name; kind = kind; bits = bits; cells = cells.now })) }
+        ensures fault { Tells result (fault_of
+            (with_output self.old (record
+            { name = name; kind = kind; bits = bits; cells = cells.now }))) }
         ensures unchanged { OnErr result (self.new ≡ self.old) }
     {
         let cells = Cells::from_vec(Vec::from_slice(self.alloc, cells)?);
@@ -236,7 +245,8 @@ fn check_job(net: &Net, terms: &[Term], constant: i16, table: &[u8]) -> Result<u
 fn known_degree(net: &Net, terms: &[Term], constant: i16, table: &[u8]) -> u8
     requires legal { Legal net.now }
     requires few { length terms.now ≤ 16 }
-    requires fits { JobFits net.now.space (cell_count net.now) (degree net.now) (noise net.now) terms.now constant table.now }
+    requires fits { JobFits net.now.space (cell_count net.now) (degree net.now) (noise net.now)
+        terms.now constant table.now }
     ensures { result ≡ reached (degree net.now) terms.now constant table.now }
 {
     let inputs = net.inputs.as_slice();
@@ -282,7 +292,8 @@ fn add_job(
 ) -> Result<(), AllocError>
     ensures added { OnOk result (net.new ≡ record net.old {
       jobs = net.old.jobs
-          ++ record { terms = terms.now; constant = constant; table = table.now; degree = degree } ∷ [];
+          ++ record { terms = terms.now; constant = constant; table = table.now; degree = degree }
+          ∷ [];
     }) }
     ensures unchanged { OnErr result (net.new ≡ net.old) }
 {
@@ -297,7 +308,8 @@ fn make_job(
     table: &[u8],
     degree: u8,
 ) -> Result<Job, AllocError>
-    ensures { IfOk result (λ job. job ≡ record { terms = terms.now; constant = constant; table = table.now; degree = degree }) }
+    ensures { IfOk result (λ job. job ≡ record
+        { terms = terms.now; constant = constant; table = table.now; degree = degree }) }
 {
     Ok(Job {
         terms: Terms::from_vec(Vec::from_slice(alloc, terms)?),

@@ -64,10 +64,14 @@ pub(crate) fn sum_tags(
 ) -> TagSums
     requires space { (space ≡ 2) ⊎ (space ≡ 3) }
     requires few { length terms.now ≤ 16 }
-    requires forward { AllByRecursion (λ t. t.cell < input_cells space inputs.now + length jobs.now) terms.now }
-    ensures low { result.low ≡ low_of (λ c. get_or (degrees_after space inputs.now jobs.now) c 0) constant terms.now }
-    ensures high { result.high ≡ high_of (λ c. get_or (degrees_after space inputs.now jobs.now) c 0) constant terms.now }
-    ensures noise { result.noise ≡ noise_of (λ c. get_or (noises_after space inputs.now jobs.now) c 0) terms.now }
+    requires forward { AllByRecursion (λ t. t.cell < input_cells space inputs.now + length jobs.now)
+        terms.now }
+    ensures low { result.low ≡ low_of (λ c. get_or (degrees_after space inputs.now jobs.now) c 0)
+        constant terms.now }
+    ensures high { result.high ≡ high_of (λ c. get_or (degrees_after space inputs.now jobs.now) c 0)
+        constant terms.now }
+    ensures noise { result.noise ≡ noise_of (λ c.
+        get_or (noises_after space inputs.now jobs.now) c 0) terms.now }
 {
     let mut sums = TagSums::of_constant(constant);
     for term in terms {

@@ -16,6 +16,4 @@ pub use space::{noise_limit, plaintexts};
 pub use text::read_params;
 
 #[cfg(test)]
-mod tests_bounds;
-#[cfg(test)]
-mod tests_text;
+mod tests;

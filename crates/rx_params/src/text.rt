@@ -48,11 +48,13 @@ fn fields_of_text(bytes: &[u8]) -> Result<Params, LineFault>
     }
 }
 
-// The value of the next line, which has this number and is to be that of the field of this name.
+/// The value of the next line, which has this number and is to be that of the field of this name.
 fn field(lines: &mut Lines<'_>, line: u32, name: &str) -> Result<u32, LineFault>
     ensures value { IfOk result (λ value. (names : List (List ℕ)) →
-        field_values_from line (name.now ∷ names) lines.old ≡ before_values (Ok value) line (field_values_from (line + 1) names lines.new)) }
-    ensures fault { IfErr result (λ fault. (names : List (List ℕ)) → field_values_from line (name.now ∷ names) lines.old ≡ Err fault) }
+        field_values_from line (name.now ∷ names) lines.old
+        ≡ before_values (Ok value) line (field_values_from (line + 1) names lines.new)) }
+    ensures fault { IfErr result (λ fault.
+        (names : List (List ℕ)) → field_values_from line (name.now ∷ names) lines.old ≡ Err fault) }
 {
     let value = match lines.next_line() {
         Some(text) => value_of(text, name),
@@ -64,7 +66,7 @@ fn field(lines: &mut Lines<'_>, line: u32, name: &str) -> Result<u32, LineFault>
     }
 }
 
-// The value of the line of a field.
+/// The value of the line of a field.
 fn value_of(text: &[u8], name: &str) -> Result<u32, LineCause>
     ensures { result ≡ field_value name.now (words_of text.now) }
 {

@@ -15,7 +15,8 @@ pub fn product_add(acc: &mut [u64], small: &[i64], big: &[u64], scratch: &mut [u
     requires room { 2 * length acc.old ≤ length scratch.old }
     ensures added { AreWords
         (length acc.old)
-        (λ i. of_words acc.old i +ℤ product (length acc.old) (of_numbers small.now) (of_words big.now) i)
+        (λ i. of_words acc.old i +ℤ product (length acc.old) (of_numbers small.now)
+        (of_words big.now) i)
         acc.new }
     ensures scratch_stays { length scratch.new ≡ length scratch.old }
 {
@@ -41,7 +42,8 @@ pub fn binary_product_add(acc: &mut [u64], bits: &[u64], big: &[u64], scratch: &
     requires binary { EachIndex bits.now (λ j. slice_index bits.now j < 2) }
     ensures added { AreWords
         (length acc.old)
-        (λ i. of_words acc.old i +ℤ product (length acc.old) (of_words bits.now) (of_words big.now) i)
+        (λ i. of_words acc.old i +ℤ product (length acc.old) (of_words bits.now)
+        (of_words big.now) i)
         acc.new }
     ensures scratch_stays { length scratch.new ≡ length scratch.old }
 {

@@ -20,7 +20,8 @@ pub(crate) fn add_terms(acc: &mut [u64], digits: &[i64], words: &[u64])
     requires all { length words.now + 1 ≡ length acc.old + length digits.now }
     ensures { AreWords
         (length acc.old)
-        (λ i. of_words acc.old i +ℤ convolved (length digits.now) (of_numbers digits.now) (of_words words.now) i)
+        (λ i. of_words acc.old i +ℤ convolved (length digits.now) (of_numbers digits.now)
+        (of_words words.now) i)
         acc.new }
 {
     let n = acc.len();

@@ -33,7 +33,8 @@ pub fn first_difference(first: &Params, other: &Params) -> Option<Difference>
 
 /// The difference at one field.
 fn at_field(field: u32, first: u32, other: u32) -> Option<Difference>
-    ensures { result ≡ (if first == other then None else Some (record { field = field; first = first; other = other })) }
+    ensures { result ≡ (if first == other then None else Some
+        (record { field = field; first = first; other = other })) }
 {
     if first == other {
         None

@@ -96,7 +96,7 @@ pub fn malformed_binary(alloc: Global, name: &str, fault: CodecFault) -> Result<
     Ok(Refusal::new(Kind::Malformed, line))
 }
 
-// A net that is not legal.
+/// A net that is not legal.
 fn illegal_net(alloc: Global, name: &str, fault: NetFault) -> Result<Refusal, AllocError>
     ensures { IfOk result (λ refusal. refusal ≡ illegal_net name.now fault) }
 {
@@ -106,7 +106,7 @@ fn illegal_net(alloc: Global, name: &str, fault: NetFault) -> Result<Refusal, Al
     Ok(Refusal::new(Kind::Malformed, line))
 }
 
-// The end of the line of a net, from its fault on.
+/// The end of the line of a net, from its fault on.
 fn net_words(alloc: Global, fault: NetFault) -> Result<String, AllocError>
     ensures { IfOk result (λ words. string_bytes words ≡ net_words fault) }
 {

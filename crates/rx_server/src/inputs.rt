@@ -23,7 +23,7 @@ pub fn first_fault(inputs: &[NetInput], ciphers: &[Cipher]) -> Option<InputFault
     None
 }
 
-// What is wrong with one input.
+/// What is wrong with one input.
 fn input_fault(input: &NetInput, ciphers: &[Cipher]) -> Option<InputFault>
     ensures { result ≡ found_fault input.now (named input.now.name (items_of ciphers.now)) }
 {
@@ -33,11 +33,12 @@ fn input_fault(input: &NetInput, ciphers: &[Cipher]) -> Option<InputFault>
     }
 }
 
-// The only item that has the name of an input.
+/// The only item that has the name of an input.
 fn only_item<'a>(input: &NetInput, ciphers: &'a [Cipher]) -> Result<&'a Item, InputFault>
     ensures { MatchResult result
         (λ item. named input.now.name (items_of ciphers.now) ≡ item.now ∷ [])
-        (λ fault. found_fault input.now (named input.now.name (items_of ciphers.now)) ≡ Some fault) }
+        (λ fault. found_fault input.now (named input.now.name (items_of ciphers.now))
+        ≡ Some fault) }
 {
     let mut found = None;
     for cipher in ciphers {
@@ -46,15 +47,17 @@ fn only_item<'a>(input: &NetInput, ciphers: &'a [Cipher]) -> Result<&'a Item, In
     found.ok_or(InputFault::Missing(input.name))
 }
 
-// The only item that has the name, among one that was found before and these.
+/// The only item that has the name, among one that was found before and these.
 fn only_among<'a>(
     name: &Name,
     before: Option<&'a Item>,
     items: &'a [Item],
 ) -> Result<Option<&'a Item>, InputFault>
     ensures { MatchResult result
-        (λ found. option_to_list (option_copied before.entry) ++ named name.now items.now ≡ option_to_list (option_copied found))
-        (λ fault. (2 ≤ length (option_to_list (option_copied before.entry) ++ named name.now items.now))
+        (λ found. option_to_list (option_copied before.entry) ++ named name.now items.now
+        ≡ option_to_list (option_copied found))
+        (λ fault. (2 ≤ length (option_to_list (option_copied before.entry)
+        ++ named name.now items.now))
         × (fault ≡ InputFault.Twice name.now)) }
 {
     let mut found = before;
@@ -69,7 +72,7 @@ fn only_among<'a>(
     Ok(found)
 }
 
-// What is wrong with the item that has the name of an input.
+/// What is wrong with the item that has the name of an input.
 fn item_fault(input: &NetInput, item: &Item) -> Option<InputFault>
     ensures { result ≡ item_fault input.now item.now }
 {
@@ -80,7 +83,7 @@ fn item_fault(input: &NetInput, item: &Item) -> Option<InputFault>
     }
 }
 
-// The first block, from the least, whose degree or else noise tag is above that of the input.
+/// The first block, from the least, whose degree or else noise tag is above that of the input.
 fn tags_fault(input: &NetInput, blocks: &[Block]) -> Option<InputFault>
     ensures { result ≡ tags_fault input.now blocks.now }
 {
@@ -111,7 +114,8 @@ pub fn gather_inputs(
     ciphers: &[Cipher],
 ) -> Result<Vec<Block>, AllocError>
     requires { first_fault inputs.now (items_of ciphers.now) ≡ None }
-    ensures { IfOk result (λ blocks. blocks.items ≡ blocks_found inputs.now (items_of ciphers.now)) }
+    ensures { IfOk result (λ blocks. blocks.items
+        ≡ blocks_found inputs.now (items_of ciphers.now)) }
 {
     let mut blocks = Vec::new(alloc);
     for input in inputs {
@@ -121,7 +125,7 @@ pub fn gather_inputs(
     Ok(blocks)
 }
 
-// Adds copies of blocks.
+/// Adds copies of blocks.
 fn copy_blocks(alloc: Global, out: &mut Vec<Block>, blocks: &[Block]) -> Result<(), AllocError>
     ensures { OnOk result (out.new.items ≡ out.old.items ++ blocks.now) }
 {

@@ -19,7 +19,8 @@ pub fn output_items(
     blocks: Blocks,
 ) -> Result<Items, AllocError>
     ensures in_turn { IfOk result (λ items. items ≡ items_over outputs.now blocks) }
-    ensures of_cells { IfOk result (λ items. (cells : List Block) → blocks ≡ output_blocks cells outputs.now →
+    ensures of_cells { IfOk result (λ items.
+        (cells : List Block) → blocks ≡ output_blocks cells outputs.now →
         items ≡ map (output_item cells) outputs.now) }
 {
     let mut items = Vec::with_capacity(alloc, outputs.len())?;
@@ -36,7 +37,7 @@ pub fn output_items(
     Ok(Items::from_vec(items))
 }
 
-// The first blocks of those that are left, so many, or all where fewer are left.
+/// The first blocks of those that are left, so many, or all where fewer are left.
 fn first_blocks(
     alloc: Global,
     rest: &mut IntoIter<Block>,

@@ -16,7 +16,7 @@ fn name(rt: &impl Abort, text: &str) -> Name {
     name
 }
 
-// An input of four bits in two blocks.
+/// An input of four bits in two blocks.
 fn input(name: Name) -> NetInput {
     NetInput {
         name,
@@ -27,7 +27,7 @@ fn input(name: Name) -> NetInput {
     }
 }
 
-// A block of one word.
+/// A block of one word.
 fn block(alloc: Global, word: u64, degree: u8, noise: u8) -> Result<Block, Fail> {
     Ok(Block {
         words: Words::from_vec(vec![in alloc; word]?),
@@ -36,7 +36,7 @@ fn block(alloc: Global, word: u64, degree: u8, noise: u8) -> Result<Block, Fail>
     })
 }
 
-// An item of two blocks, which hold the word and the word after it. The tags are those of the second.
+/// An item of two blocks, which hold the word and the word after it. The tags are those of the second.
 fn item(alloc: Global, name: Name, word: u32, degree: u8, noise: u8) -> Result<Item, Fail> {
     let first = block(alloc, u64::from(word), 3, 1)?;
     let second = block(alloc, u64::from(word) + 1, degree, noise)?;
@@ -76,7 +76,7 @@ fn inputs_are_found_in_the_order_of_the_net(rt: HostRuntime) -> Result<(), Fail>
     Ok(())
 }
 
-// Two files with an item `a`, and between them one with an item `b` whose greatest degree is 4 and noise tag 2.
+/// Two files with an item `a`, and between them one with an item `b` whose greatest degree is 4 and noise tag 2.
 fn three_files(rt: &impl Abort, alloc: Global) -> Result<[Cipher; 3], Fail> {
     let Some(p) = named("rx-test") else {
         panic!(rt; "a set of that name");

@@ -70,7 +70,8 @@ impl<F: Files> Store for DirStore<F> {
     fn write(&mut self, name: &str, bytes: &[u8]) -> Result<(), WriteError>
         ensures reads { self.new.read_faults ≡ self.old.read_faults }
         ensures writes { WriteCounts self.old.write_faults self.new.write_faults result }
-        ensures counted { self.new.write_faults ≡ counted (write_failed result) self.old.write_faults }
+        ensures counted { self.new.write_faults
+            ≡ counted (write_failed result) self.old.write_faults }
     {
         let result = write_file(&self.runtime, name, bytes);
         if let Err(WriteError::Failed) = &result {

@@ -52,7 +52,14 @@ impl Model for MemStore {
 
     ghost coded = { store_code };
 
-    ghost view = { λ s. record { files = files_in s.files.entries; read_faults = s.read_faults; write_faults = s.write_faults; next_call = s.calls.next; failing = s.calls.failing.items } };
+    ghost view = { λ s. record {
+      files = files_in s.files.entries;
+      read_faults = s.read_faults;
+      write_faults = s.write_faults;
+      next_call = s.calls.next;
+      failing =
+          s.calls.failing.items;
+    } };
 }
 
 impl MemStore {
@@ -148,7 +155,8 @@ impl Store for MemStore {
         ensures writes { WriteCounts self.old.write_faults self.new.write_faults result }
         ensures listed { write_failed result ≡ is_listed self.old.failing self.old.next_call }
         ensures placed { OnOk result
-            (self.new ≡ record (after_write self.old) { files = with_file name.now bytes.now self.old.files }) }
+            (self.new ≡ record (after_write self.old)
+            { files = with_file name.now bytes.now self.old.files }) }
         ensures refused { OnErr result (self.new ≡ after_write self.old) }
     {
         if self.calls.fails() {
@@ -172,7 +180,12 @@ impl Model for MemSink {
 
     ghost Value = { SinkInMemory };
 
-    ghost view = { λ s. record { bytes = s.bytes.items; faults = s.faults; next_call = s.calls.next; failing = s.calls.failing.items } };
+    ghost view = { λ s. record {
+      bytes = s.bytes.items;
+      faults = s.faults;
+      next_call = s.calls.next;
+      failing = s.calls.failing.items;
+    } };
 }
 
 impl MemSink {

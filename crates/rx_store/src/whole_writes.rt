@@ -9,8 +9,10 @@ use std::io::Write;
 /// Writes all the bytes. A write that takes none of those that are left is a failure. After a failure some first
 /// bytes of them were written, and nothing else.
 pub(crate) fn write_whole<W: Write>(writer: &mut W, bytes: &[u8]) -> Result<(), WriteError>
-    ensures whole { OnOk result (Appends (W.contents writer.old) (W.contents writer.new) bytes.now) }
-    ensures part { OnErr result (TakesPart (W.contents writer.old) (W.contents writer.new) bytes.now) }
+    ensures whole { OnOk result (Appends (W.contents writer.old)
+        (W.contents writer.new) bytes.now) }
+    ensures part { OnErr result (TakesPart (W.contents writer.old)
+        (W.contents writer.new) bytes.now) }
 {
     let mut rest = bytes;
     while !rest.is_empty() {

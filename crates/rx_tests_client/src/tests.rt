@@ -1,11 +1,11 @@
 //! The client's commands over files in memory: what they write and print, and what they refuse.
 use crate::texts::{small_bits, widths};
 use crate::too_long_store::TooLongStore;
+use rx_store::{MemSink, MemStore, ReadError, Store};
 use rx_tests_kit::{
     first_wrong, has_length, holds, no_files, place_changed, place_longer, place_start, printed,
     run, was_printed, word_at,
 };
-use rx_store::{MemSink, MemStore, ReadError, Store};
 use std::alloc::{AllocError, Global};
 use std::process::Abort;
 use std::test::Fail;

@@ -3,9 +3,9 @@ ghost use Rattle.std.specs.Prelude.{◌≡◌, ◌⊎◌, IfOk};
 ghost use Rattle.rx_net.specs.Named.{IsNet};
 
 use crate::tables::{Look, table};
-use rx_tests_kit::{name, number, term};
 use rx_net::{Net, NetInput, NetPen};
 use rx_params::Kind;
+use rx_tests_kit::{name, number, term};
 use std::alloc::Global;
 use std::test::Fail;
 

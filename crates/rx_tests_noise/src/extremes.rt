@@ -39,7 +39,8 @@ pub fn extreme_words(
     end: End,
 ) -> Result<Vec<u64>, AllocError>
     requires small_size { length small.now ≡ made.now.params.lwe_dim }
-    ensures { IfOk result (λ words. length words.items ≡ boot_size made.now.params + switch_size made.now.params) }
+    ensures { IfOk result (λ words. length words.items
+        ≡ boot_size made.now.params + switch_size made.now.params) }
 {
     let p = made.params();
     let mut boot = made.boot().words().to_vec(alloc)?;

@@ -4,6 +4,4 @@
 #[cfg(test)]
 mod extremes;
 #[cfg(test)]
-mod tests_lookups;
-#[cfg(test)]
-mod tests_noise;
+mod tests;

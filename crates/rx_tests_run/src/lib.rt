@@ -5,6 +5,4 @@
 #[cfg(test)]
 mod nets;
 #[cfg(test)]
-mod tests_run;
-#[cfg(test)]
-mod tests_server;
+mod tests;

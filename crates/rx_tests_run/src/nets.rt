@@ -2,9 +2,9 @@
 ghost use Rattle.std.specs.Prelude.{◌≡◌, ◌⊎◌, IfOk};
 ghost use Rattle.rx_net.specs.Named.{IsNet};
 
-use rx_tests_kit::{name, number, term};
 use rx_net::{Net, NetPen};
 use rx_params::Kind;
+use rx_tests_kit::{name, number, term};
 use std::alloc::Global;
 use std::test::Fail;
 

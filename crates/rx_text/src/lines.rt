@@ -52,7 +52,8 @@ impl<'a> Lines<'a> {
 
 /// The first word of a line, which may be empty, and what follows the space after it, None where there is no space.
 pub fn first_word(line: &[u8]) -> (&[u8], Option<&[u8]>)
-    ensures { words_of line.now ≡ result.0.now ∷ option_map_or (λ rest. words_of rest.now) result.1 [] }
+    ensures { words_of line.now ≡ result.0.now
+        ∷ option_map_or (λ rest. words_of rest.now) result.1 [] }
 {
     cut(line, b' ')
 }
@@ -71,7 +72,8 @@ pub fn two_words(line: &[u8]) -> Option<(&[u8], &[u8])>
 
 /// The words of a line of four words, None where it has fewer or more.
 pub fn four_words(line: &[u8]) -> Option<(&[u8], &[u8], &[u8], &[u8])>
-    ensures { option_map (λ w. (w.0.now, w.1.now, w.2.now, w.3.now)) result ≡ four_of (words_of line.now) }
+    ensures { option_map (λ w. (w.0.now, w.1.now, w.2.now, w.3.now)) result
+        ≡ four_of (words_of line.now) }
 {
     let (first, rest) = first_word(line);
     let (second, rest) = first_word(rest?);
@@ -83,9 +85,10 @@ pub fn four_words(line: &[u8]) -> Option<(&[u8], &[u8], &[u8], &[u8])>
     }
 }
 
-// What stands before the first such byte, and what follows it, if there is one.
+/// What stands before the first such byte, and what follows it, if there is one.
 fn cut(text: &[u8], at: u8) -> (&[u8], Option<&[u8]>)
-    ensures { slice_split (λ b. b == at) text.now ≡ result.0.now ∷ option_map_or (λ rest. slice_split (λ b. b == at) rest.now) result.1 [] }
+    ensures { slice_split (λ b. b == at) text.now ≡ result.0.now
+        ∷ option_map_or (λ rest. slice_split (λ b. b == at) rest.now) result.1 [] }
 {
     match place_of(text, at) {
         Some(place) => (&text[..place], Some(&text[place + 1..])),

@@ -25,10 +25,15 @@ impl Model for Name {
 
     ghost invariant = { IsHeldName };
 
-    ghost inverse = { λ text. record { bytes = text ++ replicate (32 - length text) 0; len = length text } };
+    ghost inverse = { λ text. record {
+      bytes = text
+          ++ replicate (32 - length text) 0;
+      len = length text;
+    } };
 
     ghost inverse_ok = { λ n h i. record {
-      bytes = (ap (λ len. take n.len n.bytes ++ replicate (32 - len) 0) (length-take-le n.len n.bytes (omega (arith, h.fits, h.whole))) ∙ sym h.padded) i;
+      bytes = (ap (λ len. take n.len n.bytes ++ replicate (32 - len) 0)
+          (length-take-le n.len n.bytes (omega (arith, h.fits, h.whole))) ∙ sym h.padded) i;
       len = length-take-le n.len n.bytes (omega (arith, h.fits, h.whole)) i;
     } };
 }

@@ -18,7 +18,8 @@ pub fn read_all<S: Store>(
     names: &[Word<'_>],
     store: &mut S,
 ) -> Result<Vec<Bytes>, Stop>
-    ensures gives { ReadsAll (S.files store.old) names.now (S.read_faults store.old) (S.read_faults store.new) result }
+    ensures gives { ReadsAll (S.files store.old) names.now (S.read_faults store.old)
+        (S.read_faults store.new) result }
     ensures count { IfOk result (λ all. length all.items ≡ length names.now) }
     ensures same { S.files store.new ≡ S.files store.old }
     ensures reads { S.read_faults store.old ≤ S.read_faults store.new }
@@ -41,7 +42,8 @@ pub fn read_all<S: Store>(
 
 /// Writes these files, in order, and stops at the first that fails.
 pub fn write_all<S: Store>(writes: &[Output], store: &mut S) -> Result<(), WriteError>
-    ensures leaves { WritesAll writes.now (S.files store.old) (S.files store.new) (S.write_faults store.old) (S.write_faults store.new) result }
+    ensures leaves { WritesAll writes.now (S.files store.old) (S.files store.new)
+        (S.write_faults store.old) (S.write_faults store.new) result }
     ensures reads { S.read_faults store.new ≡ S.read_faults store.old }
     ensures writes { S.write_faults store.old ≤ S.write_faults store.new }
 {

@@ -15,7 +15,7 @@ fn a_stream_gives_the_published_words(rt: HostRuntime) {
     }
 }
 
-// The first words of these streams have 0, 1, 524286 and 524287 as their low 19 bits.
+/// The first words of these streams have 0, 1, 524286 and 524287 as their low 19 bits.
 #[test]
 fn a_draw_reaches_both_ends(rt: HostRuntime) {
     for (number, drawn) in [

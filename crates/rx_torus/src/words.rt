@@ -45,7 +45,8 @@ impl Words {
 
     /// The words, to be written in place. They stay as many.
     pub fn as_mut_slice(&mut self) -> &mut [u64]
-        ensures* writes { sem 𝓛 (Lends the_row (Array word_type 0) self.entry result (overwritten self.old)) }
+        ensures* writes { sem 𝓛 (Lends the_row (Array word_type 0) self.entry result
+            (overwritten self.old)) }
         ensures value { result.now ≡ self.old }
     {
         self.words.as_mut_slice()

@@ -43,7 +43,8 @@ fn lines_of(alloc: Global, bounds: &Bounds) -> Result<String, AllocError>
 
 /// Appends the line of a sum.
 fn put_line(lines: &mut String, name: &str, bound: u128) -> Result<(), AllocError>
-    ensures { OnOk result (string_bytes lines.new ≡ string_bytes lines.old ++ bound_line name.now bound) }
+    ensures { OnOk result (string_bytes lines.new ≡ string_bytes lines.old
+        ++ bound_line name.now bound) }
 {
     write!(lines, "{name} {bound}\n")
 }

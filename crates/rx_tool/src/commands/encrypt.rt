@@ -34,7 +34,8 @@ pub fn encrypt_numbers(
     files: &[Bytes],
 ) -> Result<Done, Stop>
     requires { length files.now ≡ 2 }
-    ensures { Answers (Encrypt client.now mask_seed.now noise_seed.now values.now out.now) files.now result }
+    ensures { Answers (Encrypt client.now mask_seed.now noise_seed.now values.now out.now)
+        files.now result }
 {
     let keys = match decode_client(files[0].as_slice()) {
         Ok(keys) => keys,

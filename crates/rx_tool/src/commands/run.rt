@@ -90,7 +90,8 @@ fn evaluate<R: Threads + Sync, G: Gate + Sync>(
     requires net { IsNet net.now }
     requires ciphers { AreCipherValues ciphers.now }
     requires may { MayRun key.now net.now workers ciphers.now }
-    ensures file { IfOk result (λ made. CipherFile made.bytes.items (run_cipher key.now net.now ciphers.now)) }
+    ensures file { IfOk result (λ made. CipherFile made.bytes.items
+        (run_cipher key.now net.now ciphers.now)) }
     ensures keeps { IfOk result (λ _. KeepsRun key.now net.now ciphers.now) }
     ensures keeps_items { IfOk result (λ _. KeepsItems key.now net.now ciphers.now) }
     ensures jobs { IfOk result (λ made. made.jobs ≡ length net.now.jobs) }

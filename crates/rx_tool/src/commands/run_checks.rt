@@ -36,7 +36,8 @@ pub fn check_values(
 ) -> Result<(), Stop>
     requires count { length ciphers.now ≡ length names.now }
     requires jobs { length net.now.jobs ≤ 65536 }
-    ensures { Yields (values_refusal key.now net_name.now net.now workers (texts names.now) ciphers.now)
+    ensures { Yields (values_refusal key.now net_name.now net.now workers
+        (texts names.now) ciphers.now)
         (λ _. MayRun key.now net.now workers ciphers.now) result }
 {
     let set = key.params();
@@ -54,7 +55,8 @@ pub fn check_values(
 
 /// Whether the net has the message bits of the set.
 fn check_net(alloc: Global, set: &Params, name: &str, net: &Net) -> Result<(), Stop>
-    ensures { Yields (net_difference name.now set.now net.now) (λ _. net.now.space ≡ set.now.message_bits) result }
+    ensures { Yields (net_difference name.now set.now net.now) (λ _.
+        net.now.space ≡ set.now.message_bits) result }
 {
     if set.message_bits == net.space {
         return Ok(());
@@ -70,7 +72,8 @@ fn check_net(alloc: Global, set: &Params, name: &str, net: &Net) -> Result<(), S
 /// Whether all ciphers are of the set.
 fn check_sets(alloc: Global, set: &Params, names: &[String], ciphers: &[Cipher]) -> Result<(), Stop>
     requires { length ciphers.now ≡ length names.now }
-    ensures { Yields (input_difference set.now (texts names.now) ciphers.now) (λ _. AreOfSet set.now ciphers.now) result }
+    ensures { Yields (input_difference set.now (texts names.now) ciphers.now) (λ _.
+        AreOfSet set.now ciphers.now) result }
 {
     for (place, cipher) in ciphers.iter().enumerate() {
         if let Some(difference) = first_difference(set, &cipher.params) {
@@ -95,7 +98,8 @@ fn check_inputs(alloc: Global, net: &Net, ciphers: &[Cipher]) -> Result<(), Stop
 fn check_limits(alloc: Global, set: &Params, net: &Net, workers: u64) -> Result<(), Stop>
     requires accepted { Accepts set.now }
     requires jobs { length net.now.jobs ≤ 65536 }
-    ensures { Yields (limits_refusal set.now net.now workers) (λ _. IsWithinLimits set.now net.now workers) result }
+    ensures { Yields (limits_refusal set.now net.now workers) (λ _.
+        IsWithinLimits set.now net.now workers) result }
 {
     if workers < 1 || workers > MOST_WORKERS {
         return Err(stop_for(wrong_workers(alloc, workers)));

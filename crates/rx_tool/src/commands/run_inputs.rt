@@ -16,7 +16,8 @@ use std::alloc::Global;
 pub fn read_ciphers(alloc: Global, names: &[String], files: &[Bytes]) -> Result<Vec<Cipher>, Stop>
     requires { length files.now ≡ length names.now }
     ensures { Yields (malformed_input (texts names.now) files.now)
-        (λ ciphers. (ciphers.items ≡ ciphers_of files.now) × AreCiphers files.now ciphers.items) result }
+        (λ ciphers. (ciphers.items ≡ ciphers_of files.now)
+        × AreCiphers files.now ciphers.items) result }
 {
     let mut ciphers = Vec::new(alloc);
     for (place, file) in files.iter().enumerate() {

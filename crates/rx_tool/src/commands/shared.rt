@@ -32,7 +32,8 @@ pub fn accepted_set(
 ) -> Result<(Params, Bounds), Stop>
     requires { length files.now ≡ length (source_reads source.now) }
     ensures { Yields (source_refusal source.now files.now)
-        (λ set. IsSet source.now files.now set.0 × Accepts set.0 × (set.1 ≡ bounds_of set.0)) result }
+        (λ set. IsSet source.now files.now set.0 × Accepts set.0
+        × (set.1 ≡ bounds_of set.0)) result }
 {
     match source {
         Source::Named(set) => accepted(alloc, set),
@@ -46,7 +47,8 @@ pub fn accepted_set(
 /// A set that is accepted, with its sums.
 fn accepted(alloc: Global, set: &Params) -> Result<(Params, Bounds), Stop>
     ensures { Yields (set_refusal set.now)
-        (λ checked. (checked.0 ≡ set.now) × Accepts checked.0 × (checked.1 ≡ bounds_of checked.0)) result }
+        (λ checked. (checked.0 ≡ set.now) × Accepts checked.0
+        × (checked.1 ≡ bounds_of checked.0)) result }
 {
     match check(set) {
         Ok(bounds) => Ok((*set, bounds)),

@@ -1,0 +1,3 @@
+//! Worked examples of keys, ciphertexts and switches.
+mod key;
+mod switch;

@@ -1,0 +1,3 @@
+//! Worked examples of sets: their sums and their text.
+mod bounds;
+mod text;

@@ -1,0 +1,3 @@
+//! Runs that are done, and what refuses one.
+mod run;
+mod server;
