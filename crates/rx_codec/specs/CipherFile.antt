@@ -103,3 +103,6 @@ cipher_from file = do
   count ← in_range (nat_le count.0 64) params.1 count
   items ← items_at params.0 count.0 [] file count.1
   ends_at file items.1 (record { params = params.0; items = items.0 })
+
+abbrev pub CipherRead : List ℕ → Cipher → Type 0
+CipherRead bytes c = CipherFile bytes c

@@ -43,3 +43,6 @@ server_from file = do
   params ← params_at file after
   words ← words_at (key_words params.0) file params.1
   ends_at file words.1 (key_of params.0 words.0)
+
+abbrev pub ServerRead : List ℕ → ServerWords → Type 0
+ServerRead bytes k = ServerFile bytes k

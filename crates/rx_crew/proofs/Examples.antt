@@ -1,5 +1,5 @@
 -- A worked evaluation, computed by the definitions.
-use Rattle.std.proofs.Common.{◌≡◌, ◌*◌, ◌^◌, ℕ, ℤ, pos, negsuc, List, [], ◌∷◌, ◌++◌, refl, replicate}
+use Rattle.std.proofs.Common.{◌≡◌, ◌*◌, ◌^◌, ℕ, ℤ, pos, negsuc, List, [], ◌∷◌, ◌++◌, refl, replicate, length}
 use Rattle.rx_laws.specs.Sum.{sum_to}
 use Rattle.rx_laws.specs.Torus.{word}
 use Rattle.rx_laws.specs.Digits.{rests, digit}
@@ -76,7 +76,7 @@ unfolding large_dim
 zero = refl
 
 -- three jobs of 257 words, a state and a count each; a net without jobs has one word
-boards : (board_words rx_test net ≡ 778) × (board_words rx_test (record { space = 2; inputs = []; jobs = []; outputs = [] }) ≡ 1) × (board_limit ≡ 33554432)
+boards : (board_words rx_test (length net.jobs) ≡ 778) × (board_words rx_test 0 ≡ 1) × (board_limit ≡ 33554432)
 unfolding large_dim
 boards = (refl, refl, refl)
 

@@ -47,9 +47,9 @@ pub record AreInputs (p : Params) (net : Net) (inputs : List Block) : Type 0 whe
 abbrev pub AreWordsOf : List Block → Type 0
 AreWordsOf blocks = (c : ℕ) → c < length blocks → let b : Block = get_or blocks c no_block in EachIndex b.words (λ i. slice_index b.words i < 2 ^ 64)
 
--- the words of the board of a net: one, and for each job its words, its state and its count
-abbrev pub board_words : Params → Net → ℕ
-board_words p net = 1 + length net.jobs * (large_dim p + 3)
+-- the words of a board of so many jobs: one, and for each job its words, its state and its count
+abbrev pub board_words : Params → ℕ → ℕ
+board_words p jobs = 1 + jobs * (large_dim p + 3)
 
 abbrev pub board_limit : ℕ
 board_limit = 2 ^ 25

@@ -47,7 +47,7 @@ pub fn run_net<R: Threads + Sync, G: Gate + Sync>(
     requires inputs { AreInputs key.now.params net.now inputs.now }
     requires workers_low { 1 ≤ workers }
     requires workers_high { workers ≤ 64 }
-    requires board { board_words key.now.params net.now ≤ board_limit }
+    requires board { board_words key.now.params (length net.now.jobs) ≤ board_limit }
     ensures outputs { IfOk result (λ report.
         report.outputs.items ≡ output_blocks (evaluated key.now net.now inputs.now)
         net.now.outputs) }

@@ -13,6 +13,7 @@ use Rattle.rx_net.specs.Tags.{low_of, high_of, noise_of, value_of, greatest_of, 
 use Rattle.rx_net.specs.Cells.{input_cells, cell_count, given, laid, job_value, one_deeper, values_after, degrees_after, noises_after, depths_after, value, degree, noise, depth, net_depth, cells_of}
 use Rattle.rx_net.specs.Faults.{limit_fault, new_fault, job_fault, fault_of}
 use Rattle.rx_net.specs.Pen.{new_job}
+use Rattle.rx_net.specs.Numbers.{digits_of, number_of, values_of, outs}
 
 -- ---- a weighted sum: 3, and twice cell 0 less cell 1, where each cell reaches 3 and has the noise tag of its number
 abbrev term : ℕ → ℤ → Term
@@ -127,6 +128,15 @@ sum_values = refl
 sum_cells : (cell_count sum_net ≡ 7) × (value sum_net (3 ∷ 1 ∷ 2 ∷ 1 ∷ []) 6 ≡ 3) × (degree sum_net 4 ≡ 1) × (noise sum_net 6 ≡ 1) × (depth sum_net 5 ≡ 1) × (depth sum_net 6 ≡ 2) × (net_depth sum_net ≡ 2)
 unfolding cell_count input_cells given laid job_value one_deeper values_after degrees_after noises_after depths_after value degree noise depth net_depth greatest_of
 sum_cells = (refl, refl, refl, refl, refl, refl, refl)
+
+-- 27 is 3 and twice 4 and 16; digits past those that are asked for are left out
+digits : (digits_of 2 3 27 ≡ 3 ∷ 2 ∷ 1 ∷ []) × (number_of 2 (3 ∷ 2 ∷ 1 ∷ []) ≡ 27) × (digits_of 3 1 27 ≡ 3 ∷ []) × (number_of 3 [] ≡ 0)
+digits = (refl, refl, refl, refl)
+
+-- outputs over all cells of the net: the digits of the sum, and cell 0 alone
+output_numbers : (values_of (7 ∷ 8 ∷ []) (output (codes "s") (1 ∷ 0 ∷ 1 ∷ [])) ≡ 8 ∷ 7 ∷ 8 ∷ [])
+    × (outs (net_of [] [] (output (codes "s") (5 ∷ 6 ∷ []) ∷ output (codes "t") (0 ∷ []) ∷ [])) (3 ∷ 1 ∷ 2 ∷ 1 ∷ 1 ∷ 1 ∷ 3 ∷ []) ≡ 13 ∷ 3 ∷ [])
+output_numbers = (refl, refl)
 
 -- a net without jobs has depth 0, a job without terms depth 1
 depths : (net_depth (over_a []) ≡ 0) × (net_depth (over_a (job [] (pos 7) same 7 ∷ [])) ≡ 1)

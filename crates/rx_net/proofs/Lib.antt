@@ -1,4 +1,5 @@
 pub mod Each
+pub mod Numbers
 pub mod Laid
 pub mod Inputs
 pub mod Sums

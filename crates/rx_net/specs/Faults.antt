@@ -12,6 +12,7 @@ use Rattle.rx_net.specs.declared.net.NetOutput.{NetOutput}
 use Rattle.rx_net.specs.declared.net.Net.{Net}
 use Rattle.rx_net.specs.declared.fault.NetFault.{NetFault}
 use Rattle.rx_net.specs.declared.fault.NetFault.TheVariants.{Forward, Range, Noise, Table, Degree, Output, Limit}
+use Rattle.rx_net.specs.Limits.{most_inputs, most_outputs, most_terms, most_jobs}
 use Rattle.rx_net.specs.Tags.{low_of, high_of, noise_of}
 use Rattle.rx_net.specs.Cells.{input_cells, cell_count, degrees_after, noises_after, degree}
 use Rattle.rx_net.specs.Legal.{is_input, is_output, reached}
@@ -31,7 +32,7 @@ abbrev pub input_fault : ℕ → List NetInput → NetInput → Option NetFault
 input_fault space before i = first_failing ((is_input space before i, Limit 3 (length before)) ∷ [])
 
 abbrev pub terms_fault : List Job → Job → Option NetFault
-terms_fault before j = first_failing ((nat_le (length j.terms) 16, Limit 5 (length before)) ∷ [])
+terms_fault before j = first_failing ((nat_le (length j.terms) most_terms, Limit 5 (length before)) ∷ [])
 
 abbrev pub limit : Bool → ℕ → ℕ → Option NetFault
 limit holds field value = first_failing ((holds, Limit field value) ∷ [])
@@ -39,11 +40,11 @@ limit holds field value = first_failing ((holds, Limit field value) ∷ [])
 unfoldable pub limit_fault : ℕ → List NetInput → List Job → List NetOutput → Option NetFault
 limit_fault space inputs jobs outputs =
     option_or (limit ((space == 2) || (space == 3)) 1 space)
-    (option_or (limit (nat_le (length inputs) 64) 2 (length inputs))
+    (option_or (limit (nat_le (length inputs) most_inputs) 2 (length inputs))
     (option_or (first_in_turn (input_fault space) [] inputs)
-    (option_or (limit (nat_le (length jobs) 65536) 4 (length jobs))
+    (option_or (limit (nat_le (length jobs) most_jobs) 4 (length jobs))
     (option_or (first_in_turn terms_fault [] jobs)
-    (limit (nat_le (length outputs) 64) 6 (length outputs))))))
+    (limit (nat_le (length outputs) most_outputs) 6 (length outputs))))))
 
 -- ---- the jobs
 

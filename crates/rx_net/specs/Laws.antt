@@ -1,9 +1,10 @@
--- The laws of legal nets.
-use Rattle.std.specs.Prelude.{ℕ, ◌+◌, ◌<◌, ◌≤◌, ◌≡◌, ◌↔◌, List, None, length, get_or, []}
+-- The laws of legal nets, and of numbers of several digits.
+use Rattle.std.specs.Prelude.{ℕ, ◌+◌, ◌*◌, ◌^◌, ◌<◌, ◌≤◌, ◌≡◌, ◌↔◌, List, None, length, get_or, []}
 use Rattle.rx_net.specs.declared.net.Job.{Job}
 use Rattle.rx_net.specs.declared.net.Net.{Net}
 use Rattle.std.specs.List.{AllByRecursion}
 use Rattle.rx_net.specs.Cells.{input_cells, cell_count, operand_words, cells_of}
+use Rattle.rx_net.specs.Numbers.{AreDigits, digits_of, number_of}
 use Rattle.rx_net.specs.Legal.{Legal, IsBounded}
 use Rattle.rx_net.specs.Faults.{fault_of}
 use Rattle.rx_net.specs.Narrow.{IsNarrow}
@@ -26,3 +27,14 @@ pub record NetLaws : Type 0 where
       Legal net → length inputs ≡ input_cells net.space net.inputs → j < length net.jobs → job ≡ get_or net.jobs j job →
       get_or (cells_of words_of basis net inputs) (input_cells net.space net.inputs + j) []
       ≡ words_of basis job (operand_words (cells_of words_of basis net inputs) job.terms)
+
+-- A number and its digits to the base 2 ^ message_bits tell each other: each number below 2 ^ (message_bits * count) is the number
+-- of its count digits, and digits are those of their number.
+pub record NumberLaws : Type 0 where
+  pub number_of_digits : (message_bits count number : ℕ) → number < 2 ^ (message_bits * count) →
+      number_of message_bits (digits_of message_bits count number) ≡ number
+  pub digits_of_number : (message_bits : ℕ) (digits : List ℕ) → AreDigits message_bits digits →
+      digits_of message_bits (length digits) (number_of message_bits digits) ≡ digits
+  pub below : (message_bits : ℕ) (digits : List ℕ) → AreDigits message_bits digits →
+      number_of message_bits digits < 2 ^ (message_bits * length digits)
+  pub small : (message_bits count number : ℕ) → AreDigits message_bits (digits_of message_bits count number)

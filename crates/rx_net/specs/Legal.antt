@@ -10,6 +10,7 @@ use Rattle.rx_net.specs.declared.net.Job.{Job}
 use Rattle.rx_net.specs.declared.net.NetInput.{NetInput}
 use Rattle.rx_net.specs.declared.net.NetOutput.{NetOutput}
 use Rattle.rx_net.specs.declared.net.Net.{Net}
+use Rattle.rx_net.specs.Limits.{most_inputs, most_outputs, most_terms, most_jobs}
 use Rattle.rx_net.specs.Tags.{low_of, high_of, noise_of, greatest_between, natural}
 use Rattle.rx_net.specs.Cells.{input_cells, cell_count, degrees_after, noises_after, value, degree, Within}
 
@@ -66,11 +67,11 @@ is_output space count degree before o =
 -- the limits of a net's lists
 pub record WithinLimits (net : Net) : Type 0 where
   pub space : (net.space ≡ 2) ⊎ (net.space ≡ 3)
-  pub few_inputs : length net.inputs ≤ 64
+  pub few_inputs : length net.inputs ≤ most_inputs
   pub inputs : InTurn (λ before i. IsTrue (is_input net.space before i)) [] net.inputs
-  pub few_jobs : length net.jobs ≤ 65536
-  pub few_terms : InTurn (λ before (j : Job). length j.terms ≤ 16) [] net.jobs
-  pub few_outputs : length net.outputs ≤ 64
+  pub few_jobs : length net.jobs ≤ most_jobs
+  pub few_terms : InTurn (λ before (j : Job). length j.terms ≤ most_terms) [] net.jobs
+  pub few_outputs : length net.outputs ≤ most_outputs
 
 pub record Legal (net : Net) : Type 0 where
   pub limits : WithinLimits net

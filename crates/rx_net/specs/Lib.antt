@@ -1,5 +1,7 @@
 pub mod Tags
 pub mod Cells
+pub mod Numbers
+pub mod Limits
 pub mod Legal
 pub mod Named
 pub mod Faults

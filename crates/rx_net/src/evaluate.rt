@@ -1,6 +1,7 @@
 //! What the cells of a net hold, and how deep they are.
 ghost use Rattle.std.specs.Prelude.{◌≡◌, ◌↔◌, ◌⊎◌, pos, ◌≤ℤ◌, ◌<◌, ◌≤◌, length, map, get_or, IfOk, IsTrue};
 ghost use Rattle.std.specs.List.{AllByRecursion};
+ghost use Rattle.rx_net.specs.Limits.{most_terms};
 ghost use Rattle.rx_net.specs.Tags.{value_of, greatest_of, natural};
 ghost use Rattle.rx_net.specs.Cells.{Within, input_cells, values_after, net_depth};
 ghost use Rattle.rx_net.specs.Legal.{Legal};
@@ -60,7 +61,7 @@ fn entry_at(table: &[u8], index: i32) -> u8
 
 /// The sum of a constant and of weight times value over the terms.
 fn weighted_sum(values: &[u8], terms: &[Term], constant: i16) -> i32
-    requires few { length terms.now ≤ 16 }
+    requires few { length terms.now ≤ most_terms }
     requires forward { AllByRecursion (λ t. t.cell < length values.now) terms.now }
     ensures { result ≡ value_of (λ c. get_or values.now c 0) constant terms.now }
 {

@@ -4,6 +4,7 @@ ghost use Rattle.std.specs.List.{list_all};
 ghost use Rattle.rx_laws.specs.Decode.{plaintexts};
 ghost use Rattle.rx_params.specs.Acceptance.{answered};
 ghost use Rattle.rx_net.specs.declared.net.Job.{Job};
+ghost use Rattle.rx_net.specs.Limits.{most_terms, most_jobs};
 ghost use Rattle.rx_net.specs.Tags.{natural, greatest_between};
 ghost use Rattle.rx_net.specs.Cells.{input_cells, cell_count, degree, degrees_after};
 ghost use Rattle.rx_net.specs.Legal.{Legal, InTurn, WithinLimits, is_input, is_output, has_input_tags, names_input, names_output, are_cells, reached as reached_of};
@@ -16,13 +17,17 @@ use crate::tags::{greatest_between, input_cells, sum_tags, tags_at};
 use crate::term::Term;
 use rx_params::{Name, noise_limit, plaintexts};
 
-pub(crate) const MOST_INPUTS: usize = 64;
+/// The most inputs of a net.
+pub const MOST_INPUTS: usize = 64;
 
-pub(crate) const MOST_JOBS: usize = 65536;
+/// The most outputs of a net.
+pub const MOST_OUTPUTS: usize = 64;
 
-pub(crate) const MOST_TERMS: usize = 16;
+/// The most terms of a job.
+pub const MOST_TERMS: usize = 16;
 
-pub(crate) const MOST_OUTPUTS: usize = 64;
+/// The most jobs of a net.
+pub const MOST_JOBS: usize = 65_536;
 
 /// Ok exactly where the net is legal, else its first fault: a limit, the fields in their order; then a fault of a
 /// job, job after job; then one of an output.
@@ -129,8 +134,8 @@ fn names_input(name: &Name, inputs: &[NetInput]) -> bool
 fn check_jobs(space: u32, inputs: &[NetInput], jobs: &[Job]) -> Result<(), NetFault>
     requires space { (space ≡ 2) ⊎ (space ≡ 3) }
     requires few_cells { input_cells space inputs.now ≤ 2048 }
-    requires few_jobs { length jobs.now ≤ 65536 }
-    requires few_terms { InTurn (λ _ (j : Job). length j.terms ≤ 16) [] jobs.now }
+    requires few_jobs { length jobs.now ≤ most_jobs }
+    requires few_terms { InTurn (λ _ (j : Job). length j.terms ≤ most_terms) [] jobs.now }
     ensures { TellsFault result (first_in_turn (job_fault space inputs.now) [] jobs.now) }
 {
     for (number, job) in jobs.iter().enumerate() {
@@ -143,8 +148,8 @@ fn check_jobs(space: u32, inputs: &[NetInput], jobs: &[Job]) -> Result<(), NetFa
 fn check_job(space: u32, inputs: &[NetInput], before: &[Job], job: &Job) -> Result<(), NetFault>
     requires space { (space ≡ 2) ⊎ (space ≡ 3) }
     requires few_cells { input_cells space inputs.now ≤ 2048 }
-    requires few_jobs { length before.now ≤ 65536 }
-    requires few_terms { length job.now.terms ≤ 16 }
+    requires few_jobs { length before.now ≤ most_jobs }
+    requires few_terms { length job.now.terms ≤ most_terms }
     ensures { TellsFault result (job_fault space inputs.now before.now job.now) }
 {
     let terms = job.terms.as_slice();
@@ -172,8 +177,8 @@ pub(crate) fn reach(
 ) -> Result<u8, NetFault>
     requires space { (space ≡ 2) ⊎ (space ≡ 3) }
     requires few_cells { input_cells space inputs.now ≤ 2048 }
-    requires few_jobs { length before.now ≤ 65536 }
-    requires few_terms { length terms.now ≤ 16 }
+    requires few_jobs { length before.now ≤ most_jobs }
+    requires few_terms { length terms.now ≤ most_terms }
     ensures fault { TellsFault result (new_fault space inputs.now before.now terms.now
         constant table.now) }
     ensures degree { IfOk result (λ reached. reached

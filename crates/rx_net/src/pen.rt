@@ -1,6 +1,7 @@
 //! A net is made input by input, job by job and output by output, and is legal at every moment.
 ghost use Rattle.std.specs.Prelude.{◌≡◌, ◌⊎◌, pos, ◌≤ℤ◌, ◌+◌, ◌<◌, ◌≤◌, Some, None, [], ◌∷◌, ◌++◌, length, IfOk, OnErr, OnOk};
 ghost use Rattle.rx_net.specs.declared.net.Job.{Job};
+ghost use Rattle.rx_net.specs.Limits.{most_terms, most_jobs};
 ghost use Rattle.rx_net.specs.Tags.{natural, greatest_between};
 ghost use Rattle.rx_net.specs.Cells.{cell_count, degree, noise};
 ghost use Rattle.rx_net.specs.Legal.{Legal, JobFits, IsBounded, reached};
@@ -167,8 +168,8 @@ impl NetPen {
     /// Adds a job that is known to be lawful, and answers its cell. The only error is want of memory, after which the
     /// pen is as before.
     pub fn place(&mut self, terms: &[Term], constant: i16, table: &[u8]) -> Result<u32, AllocError>
-        requires room { length self.old.jobs < 65536 }
-        requires few { length terms.now ≤ 16 }
+        requires room { length self.old.jobs < most_jobs }
+        requires few { length terms.now ≤ most_terms }
         requires fits { JobFits self.old.space (cell_count self.old) (degree self.old)
             (noise self.old) terms.now constant table.now }
         ensures added { IfOk result (λ _. self.new
@@ -244,7 +245,7 @@ fn check_job(net: &Net, terms: &[Term], constant: i16, table: &[u8]) -> Result<u
 /// The degree of the cell of a job that is known to be lawful.
 fn known_degree(net: &Net, terms: &[Term], constant: i16, table: &[u8]) -> u8
     requires legal { Legal net.now }
-    requires few { length terms.now ≤ 16 }
+    requires few { length terms.now ≤ most_terms }
     requires fits { JobFits net.now.space (cell_count net.now) (degree net.now) (noise net.now)
         terms.now constant table.now }
     ensures { result ≡ reached (degree net.now) terms.now constant table.now }

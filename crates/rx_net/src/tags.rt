@@ -1,6 +1,7 @@
 //! The degrees and noises of earlier cells, and what a weighted sum makes of them.
 ghost use Rattle.std.specs.Prelude.{◌≡◌, ◌⊎◌, ◌+◌, ◌<◌, ◌≤◌, length, get_or};
 ghost use Rattle.std.specs.List.{AllByRecursion};
+ghost use Rattle.rx_net.specs.Limits.{most_terms};
 ghost use Rattle.rx_net.specs.Tags.{low_of, high_of, noise_of, greatest_of, greatest_between};
 ghost use Rattle.rx_net.specs.Cells.{input_cells, degrees_after, noises_after};
 
@@ -63,7 +64,7 @@ pub(crate) fn sum_tags(
     constant: i16,
 ) -> TagSums
     requires space { (space ≡ 2) ⊎ (space ≡ 3) }
-    requires few { length terms.now ≤ 16 }
+    requires few { length terms.now ≤ most_terms }
     requires forward { AllByRecursion (λ t. t.cell < input_cells space inputs.now + length jobs.now)
         terms.now }
     ensures low { result.low ≡ low_of (λ c. get_or (degrees_after space inputs.now jobs.now) c 0)

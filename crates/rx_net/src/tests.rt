@@ -8,6 +8,7 @@ use crate::{
 };
 use rx_params::{Kind, Name};
 use std::alloc::{AllocError, Global};
+use std::process::Abort;
 use std::test::Fail;
 
 const IDENTITY: [u8; 16] = [0, 1, 2, 3, 4, 5, 6, 7, 8, 9, 10, 11, 12, 13, 14, 15];
@@ -150,13 +151,15 @@ fn limits_come_first(rt: HostRuntime) -> Result<(), Fail> {
 
 #[test]
 fn a_pen_refuses_and_goes_on(rt: HostRuntime) -> Result<(), Fail> {
-    let Some(a) = Name::of(b"a") else {
-        panic!(rt; "a name");
+    let (Some(a), Some(b)) = (Name::of(b"a"), Name::of(b"b")) else {
+        panic!(rt; "names");
     };
     let mut pen = NetPen::new(rt.alloc(), 2);
     let first = pen.input(number(a));
     assert_eq!(rt; first, Ok(0));
-    let itself = pen.job(&[term(1, 1)], 0, &IDENTITY);
+    let second = pen.input(bit(b));
+    assert_eq!(rt; second, Ok(1));
+    let itself = pen.job(&[term(2, 1)], 0, &IDENTITY);
     assert_eq!(rt; itself, Err(PenError::Net(NetFault::Forward { job: 0 })));
     let wide = pen.job(&[term(0, 5)], 1, &IDENTITY);
     let range = NetFault::Range {
@@ -165,9 +168,59 @@ fn a_pen_refuses_and_goes_on(rt: HostRuntime) -> Result<(), Fail> {
         high: 16,
     };
     assert_eq!(rt; wide, Err(PenError::Net(range)));
-    let cell = pen.job(&[term(0, 1)], 0, &IDENTITY);
-    assert_eq!(rt; cell, Ok(1));
+    let loud = pen.job(&[term(1, 7), term(0, -1)], 3, &IDENTITY);
+    let noise = NetFault::Noise { job: 0, sum: 8 };
+    assert_eq!(rt; loud, Err(PenError::Net(noise)));
     assert_eq!(rt; pen.cells(), 2);
+    let cell = pen.job(&[term(1, 4), term(0, -1)], 3, &IDENTITY);
+    assert_eq!(rt; cell, Ok(2));
+    assert_eq!(rt; pen.cells(), 3);
+    Ok(())
+}
+
+/// A name of two letters.
+fn numbered(rt: &impl Abort, number: u8) -> Name {
+    let Some(name) = Name::of(&[b'a' + number / 26, b'a' + number % 26]) else {
+        panic!(rt; "a name");
+    };
+    name
+}
+
+fn limit(field: u8, value: u64) -> PenError {
+    PenError::Net(NetFault::Limit { field, value })
+}
+
+#[test]
+fn the_most_inputs_terms_and_outputs(rt: HostRuntime) -> Result<(), Fail> {
+    let mut pen = NetPen::new(rt.alloc(), 2);
+    for number in 0..64 {
+        pen.input(bit(numbered(&rt, number)))?;
+    }
+    let more = pen.input(bit(numbered(&rt, 64)));
+    assert_eq!(rt; more, Err(limit(2, 65)));
+    let more = pen.job(&[term(63, 0); 17], 1, &IDENTITY);
+    assert_eq!(rt; more, Err(limit(5, 0)));
+    let cell = pen.job(&[term(63, 0); 16], 1, &IDENTITY);
+    assert_eq!(rt; cell, Ok(64));
+    for number in 0..64 {
+        pen.output(numbered(&rt, number), Kind::Bit, 1, &[64])?;
+    }
+    let more = pen.output(numbered(&rt, 64), Kind::Bit, 1, &[64]);
+    assert_eq!(rt; more, Err(limit(6, 65)));
+    assert_eq!(rt; legal(&pen.finish()), Ok(()));
+    Ok(())
+}
+
+#[test]
+fn the_most_jobs(rt: HostRuntime) -> Result<(), Fail> {
+    let mut pen = NetPen::new(rt.alloc(), 2);
+    for _ in 0..65_536 {
+        pen.job(&[], 0, &IDENTITY)?;
+    }
+    let more = pen.job(&[], 0, &IDENTITY);
+    assert_eq!(rt; more, Err(limit(4, 65_537)));
+    assert_eq!(rt; pen.cells(), 65_536);
+    assert_eq!(rt; legal(&pen.finish()), Ok(()));
     Ok(())
 }
 

@@ -1,6 +1,8 @@
 -- A set is accepted exactly where nothing refuses it, and what refuses it where it is not.
-use Rattle.std.proofs.Common.{lit≤, ℕ, ◌≡◌, ◌<◌, ◌≤◌, ◌+◌, ◌*◌, ◌^◌, ◌⊎◌, ◌==◌, nat_le, nat_lt, ◌&&◌, ◌||◌, Bool, true, false, List, ◌∷◌, drop, Option, Some, None, Ok, Err, if◌then◌else◌, refl, ◌∙◌, ap, inl, inr, arith}
+use Rattle.std.proofs.Common.{lit≤, ℕ, suc, ◌≡◌, ◌<◌, ◌≤◌, ◌+◌, ◌*◌, ◌^◌, ◌⊎◌, ◌==◌, nat_le, nat_lt, ◌&&◌, ◌||◌, Bool, true, false, List, [], ◌∷◌, ◌++◌, length, get_or, take, drop, Option, Some, None, Ok, Err, if◌then◌else◌, refl, ◌∙◌, ap, inl, inr, add-one, arith}
 use Rattle.std.proofs.lemmas.Bool.Decides.{nat_tests}
+use Rattle.std.proofs.lemmas.List.{drop_all}
+use Rattle.std.proofs.Math.Seq.{drop-cons}
 use Rattle.std.specs.Option.{option_or}
 use Rattle.rx_laws.specs.Decode.{plaintexts}
 use Rattle.rx_params.specs.declared.params.Params.{Params}
@@ -40,12 +42,6 @@ at_most n high h = grind (arith, nat_tests)
 
 at_most-is : (n high : ℕ) → nat_le n high ≡ true → n ≤ high
 at_most-is n high h = grind (arith, nat_tests)
-
-pub two_or_three-within : (n : ℕ) → ((n == 2) || (n == 3)) ≡ is_within 2 3 n
-two_or_three-within n = grind (arith, nat_tests)
-
-pub at_most-within : (n high : ℕ) → nat_le n high ≡ is_within 0 high n
-at_most-within n high = grind (arith, nat_tests)
 
 below-is : (n high : ℕ) → nat_lt n high ≡ true → n < high
 below-is n high h = grind (arith, nat_tests)
@@ -124,55 +120,81 @@ pass_fields p f = record {
   lwe_bound = at_most-is p.lwe_bound 40 f.lwe_bound;
 }
 
--- the first field whose test fails is the refusal
-pub refused-message_bits : (p : Params) → ((p.message_bits == 2) || (p.message_bits == 3)) ≡ false → refusal_of p ≡ Some (Limit 1 p.message_bits)
-unfolding refusal_of
-refused-message_bits p e1 = rw e1 refl
+-- ---- the walk over the fields: what stands before this place is within its limits
+abbrev pub AreInside : List (ℕ × Bool) → ℕ → Type 0
+AreInside numbers place = first_outside 1 numbers ≡ first_outside (place + 1) (drop place numbers)
 
-pub refused-glwe_dim : (p : Params) → ((p.message_bits == 2) || (p.message_bits == 3)) ≡ true → is_within 1 4 p.glwe_dim ≡ false →
-    refusal_of p ≡ Some (Limit 2 p.glwe_dim)
-unfolding refusal_of
-refused-glwe_dim p e1 e2 = rw (e1, e2) refl
+pub one_more_inside : (numbers : List (ℕ × Bool)) (place : ℕ) → place < length numbers → (get_or numbers place (0, false)).1 ≡ true →
+    AreInside numbers place → AreInside numbers (place + 1)
+one_more_inside numbers place below inside before =
+    before ∙ rw (drop-cons numbers place (0, false) below, inside, add-one place) refl
 
-pub refused-poly_size : (p : Params) → ((p.message_bits == 2) || (p.message_bits == 3)) ≡ true → is_within 1 4 p.glwe_dim ≡ true → is_poly_size p.poly_size ≡ false →
-    refusal_of p ≡ Some (Limit 3 p.poly_size)
-unfolding refusal_of
-refused-poly_size p e1 e2 e3 = rw (e1, e2, e3) refl
+pub first_is_outside : (numbers : List (ℕ × Bool)) (place : ℕ) → place < length numbers → (get_or numbers place (0, false)).1 ≡ false →
+    AreInside numbers place → first_outside 1 numbers ≡ Some (Limit (place + 1) (get_or numbers place (0, false)).0)
+first_is_outside numbers place below outside before =
+    before ∙ rw (drop-cons numbers place (0, false) below, outside) refl
 
-pub refused-lwe_dim : (p : Params) → ((p.message_bits == 2) || (p.message_bits == 3)) ≡ true → is_within 1 4 p.glwe_dim ≡ true → is_poly_size p.poly_size ≡ true → is_within 1 1024 p.lwe_dim ≡ false →
-    refusal_of p ≡ Some (Limit 4 p.lwe_dim)
-unfolding refusal_of
-refused-lwe_dim p e1 e2 e3 e4 = rw (e1, e2, e3, e4) refl
+pub all_are_inside : (numbers : List (ℕ × Bool)) (place : ℕ) → length numbers ≤ place → AreInside numbers place → first_outside 1 numbers ≡ None
+all_are_inside numbers place past before = before ∙ ap (first_outside (place + 1)) (drop_all place numbers past)
 
-pub refused-pbs_base_log : (p : Params) → ((p.message_bits == 2) || (p.message_bits == 3)) ≡ true → is_within 1 4 p.glwe_dim ≡ true → is_poly_size p.poly_size ≡ true → is_within 1 1024 p.lwe_dim ≡ true → is_within 1 24 p.pbs_base_log ≡ false →
-    refusal_of p ≡ Some (Limit 5 p.pbs_base_log)
-unfolding refusal_of
-refused-pbs_base_log p e1 e2 e3 e4 e5 = rw (e1, e2, e3, e4, e5) refl
+-- what refuses the first of some numbers refuses all
+refused-append : (field : ℕ) (numbers others : List (ℕ × Bool)) (refused : Refused) → first_outside field numbers ≡ Some refused →
+    first_outside field (numbers ++ others) ≡ Some refused
+refused-append field [] others refused e = absurd cc
+refused-append field ((n, true) ∷ numbers) others refused e = refused-append (field + 1) numbers others refused e
+refused-append field ((n, false) ∷ numbers) others refused e = e
 
-pub refused-pbs_level : (p : Params) → ((p.message_bits == 2) || (p.message_bits == 3)) ≡ true → is_within 1 4 p.glwe_dim ≡ true → is_poly_size p.poly_size ≡ true → is_within 1 1024 p.lwe_dim ≡ true → is_within 1 24 p.pbs_base_log ≡ true → (is_within 1 30 p.pbs_level && nat_le (p.pbs_base_log * p.pbs_level) 60) ≡ false →
-    refusal_of p ≡ Some (Limit 6 p.pbs_level)
+-- the first field that is outside its limit is the refusal
+pub refused-field : (p : Params) (refused : Refused) → first_outside 1 (take 10 (limited p)) ≡ Some refused → refusal_of p ≡ Some refused
 unfolding refusal_of
-refused-pbs_level p e1 e2 e3 e4 e5 e6 = rw (e1, e2, e3, e4, e5, e6) refl
+refused-field p refused e =
+    ap (λ r. option_or r (option_or (box_refusal p) (noise_refusal p))) (refused-append 1 (take 10 (limited p)) (drop 10 (limited p)) refused e)
 
-pub refused-ks_base_log : (p : Params) → ((p.message_bits == 2) || (p.message_bits == 3)) ≡ true → is_within 1 4 p.glwe_dim ≡ true → is_poly_size p.poly_size ≡ true → is_within 1 1024 p.lwe_dim ≡ true → is_within 1 24 p.pbs_base_log ≡ true → (is_within 1 30 p.pbs_level && nat_le (p.pbs_base_log * p.pbs_level) 60) ≡ true → is_within 1 24 p.ks_base_log ≡ false →
-    refusal_of p ≡ Some (Limit 7 p.ks_base_log)
-unfolding refusal_of
-refused-ks_base_log p e1 e2 e3 e4 e5 e6 e7 = rw (e1, e2, e3, e4, e5, e6, e7) refl
+-- nothing refuses what is sound alone
+none-sound : (field n : ℕ) (b : Bool) (numbers : List (ℕ × Bool)) → first_outside field ((n, b) ∷ numbers) ≡ None →
+    (b ≡ true) × (first_outside (field + 1) numbers ≡ None)
+none-sound field n true numbers e = (refl, e)
+none-sound field n false numbers e = cc
 
-pub refused-ks_level : (p : Params) → ((p.message_bits == 2) || (p.message_bits == 3)) ≡ true → is_within 1 4 p.glwe_dim ≡ true → is_poly_size p.poly_size ≡ true → is_within 1 1024 p.lwe_dim ≡ true → is_within 1 24 p.pbs_base_log ≡ true → (is_within 1 30 p.pbs_level && nat_le (p.pbs_base_log * p.pbs_level) 60) ≡ true → is_within 1 24 p.ks_base_log ≡ true → (is_within 1 30 p.ks_level && nat_le (p.ks_base_log * p.ks_level) 60) ≡ false →
-    refusal_of p ≡ Some (Limit 8 p.ks_level)
-unfolding refusal_of
-refused-ks_level p e1 e2 e3 e4 e5 e6 e7 e8 = rw (e1, e2, e3, e4, e5, e6, e7, e8) refl
+none-append : (field : ℕ) (numbers others : List (ℕ × Bool)) → first_outside field (numbers ++ others) ≡ None →
+    (first_outside field numbers ≡ None) × (first_outside (field + length numbers) others ≡ None)
+none-append field [] others e =
+    let here : field + 0 ≡ field = omega arith in
+    (refl, rw here e)
+none-append field ((n, true) ∷ numbers) others e =
+    let rest = none-append (field + 1) numbers others e in
+    let further : field + suc (length numbers) ≡ field + 1 + length numbers = omega arith in
+    (rest.0, rw further rest.1)
+none-append field ((n, false) ∷ numbers) others e = absurd cc
 
-pub refused-glwe_bound : (p : Params) → ((p.message_bits == 2) || (p.message_bits == 3)) ≡ true → is_within 1 4 p.glwe_dim ≡ true → is_poly_size p.poly_size ≡ true → is_within 1 1024 p.lwe_dim ≡ true → is_within 1 24 p.pbs_base_log ≡ true → (is_within 1 30 p.pbs_level && nat_le (p.pbs_base_log * p.pbs_level) 60) ≡ true → is_within 1 24 p.ks_base_log ≡ true → (is_within 1 30 p.ks_level && nat_le (p.ks_base_log * p.ks_level) 60) ≡ true → nat_le p.glwe_bound 40 ≡ false →
-    refusal_of p ≡ Some (Limit 9 p.glwe_bound)
-unfolding refusal_of
-refused-glwe_bound p e1 e2 e3 e4 e5 e6 e7 e8 e9 = rw (e1, e2, e3, e4, e5, e6, e7, e8, e9) refl
+-- no field is outside its limit exactly where each test passes
+pub none_pass : (p : Params) → first_outside 1 (take 10 (limited p)) ≡ None → FieldsPass p
+none_pass p none =
+    let t1 = none-sound 1 p.message_bits ((p.message_bits == 2) || (p.message_bits == 3)) (take 9 (drop 1 (limited p))) none in
+    let t2 = none-sound 2 p.glwe_dim (is_within 1 4 p.glwe_dim) (take 8 (drop 2 (limited p))) t1.1 in
+    let t3 = none-sound 3 p.poly_size (is_poly_size p.poly_size) (take 7 (drop 3 (limited p))) t2.1 in
+    let t4 = none-sound 4 p.lwe_dim (is_within 1 1024 p.lwe_dim) (take 6 (drop 4 (limited p))) t3.1 in
+    let t5 = none-sound 5 p.pbs_base_log (is_within 1 24 p.pbs_base_log) (take 5 (drop 5 (limited p))) t4.1 in
+    let t6 = none-sound 6 p.pbs_level (is_within 1 30 p.pbs_level && nat_le (p.pbs_base_log * p.pbs_level) 60) (take 4 (drop 6 (limited p))) t5.1 in
+    let t7 = none-sound 7 p.ks_base_log (is_within 1 24 p.ks_base_log) (take 3 (drop 7 (limited p))) t6.1 in
+    let t8 = none-sound 8 p.ks_level (is_within 1 30 p.ks_level && nat_le (p.ks_base_log * p.ks_level) 60) (take 2 (drop 8 (limited p))) t7.1 in
+    let t9 = none-sound 9 p.glwe_bound (nat_le p.glwe_bound 40) (take 1 (drop 9 (limited p))) t8.1 in
+    let t10 = none-sound 10 p.lwe_bound (nat_le p.lwe_bound 40) [] t9.1 in
+    record {
+      message_bits = t1.0;
+      glwe_dim = t2.0;
+      poly_size = t3.0;
+      lwe_dim = t4.0;
+      pbs_base_log = t5.0;
+      pbs_level = t6.0;
+      ks_base_log = t7.0;
+      ks_level = t8.0;
+      glwe_bound = t9.0;
+      lwe_bound = t10.0;
+    }
 
-pub refused-lwe_bound : (p : Params) → ((p.message_bits == 2) || (p.message_bits == 3)) ≡ true → is_within 1 4 p.glwe_dim ≡ true → is_poly_size p.poly_size ≡ true → is_within 1 1024 p.lwe_dim ≡ true → is_within 1 24 p.pbs_base_log ≡ true → (is_within 1 30 p.pbs_level && nat_le (p.pbs_base_log * p.pbs_level) 60) ≡ true → is_within 1 24 p.ks_base_log ≡ true → (is_within 1 30 p.ks_level && nat_le (p.ks_base_log * p.ks_level) 60) ≡ true → nat_le p.glwe_bound 40 ≡ true → nat_le p.lwe_bound 40 ≡ false →
-    refusal_of p ≡ Some (Limit 10 p.lwe_bound)
-unfolding refusal_of
-refused-lwe_bound p e1 e2 e3 e4 e5 e6 e7 e8 e9 e10 = rw (e1, e2, e3, e4, e5, e6, e7, e8, e9, e10) refl
+pub pass_none : (p : Params) → FieldsPass p → first_outside 1 (take 10 (limited p)) ≡ None
+pass_none p f = rw (f.message_bits, f.glwe_dim, f.poly_size, f.lwe_dim, f.pbs_base_log, f.pbs_level, f.ks_base_log, f.ks_level, f.glwe_bound, f.lwe_bound) refl
 
 -- where all fields pass, the size of a key, the box and the noise decide
 passed : (p : Params) → FieldsPass p → refusal_of p ≡ option_or (if nat_le (key_words p) (2 ^ 24) then None else Some (Limit 11 (key_words p))) (option_or (box_refusal p) (noise_refusal p))
@@ -209,12 +231,6 @@ accepts-refusal_of p a =
     let l : nat_lt (left_of p) (right_of p) ≡ true = grind (arith, nat_tests) in
     passed p (fields_pass p a.fields) ∙ rw (e, n, l) refl
 
--- nothing refuses what is sound alone
-none-sound : (field n : ℕ) (b : Bool) (numbers : List (ℕ × Bool)) → first_outside field ((n, b) ∷ numbers) ≡ None →
-    (b ≡ true) × (first_outside (field + 1) numbers ≡ None)
-none-sound field n true numbers e = (refl, e)
-none-sound field n false numbers e = cc
-
 none-first : (a b : Option Refused) → option_or a b ≡ None → (a ≡ None) × (b ≡ None)
 none-first None b e = (refl, e)
 none-first (Some r) b e = cc
@@ -228,31 +244,11 @@ unfolding refusal_of
 refusal_of-accepts p h =
     let o = none-first (first_outside 1 (limited p)) (option_or (box_refusal p) (noise_refusal p)) h in
     let b = none-first (box_refusal p) (noise_refusal p) o.1 in
-    let t1 = none-sound 1 p.message_bits ((p.message_bits == 2) || (p.message_bits == 3)) (drop 1 (limited p)) o.0 in
-    let t2 = none-sound 2 p.glwe_dim (is_within 1 4 p.glwe_dim) (drop 2 (limited p)) t1.1 in
-    let t3 = none-sound 3 p.poly_size (is_poly_size p.poly_size) (drop 3 (limited p)) t2.1 in
-    let t4 = none-sound 4 p.lwe_dim (is_within 1 1024 p.lwe_dim) (drop 4 (limited p)) t3.1 in
-    let t5 = none-sound 5 p.pbs_base_log (is_within 1 24 p.pbs_base_log) (drop 5 (limited p)) t4.1 in
-    let t6 = none-sound 6 p.pbs_level (is_within 1 30 p.pbs_level && nat_le (p.pbs_base_log * p.pbs_level) 60) (drop 6 (limited p)) t5.1 in
-    let t7 = none-sound 7 p.ks_base_log (is_within 1 24 p.ks_base_log) (drop 7 (limited p)) t6.1 in
-    let t8 = none-sound 8 p.ks_level (is_within 1 30 p.ks_level && nat_le (p.ks_base_log * p.ks_level) 60) (drop 8 (limited p)) t7.1 in
-    let t9 = none-sound 9 p.glwe_bound (nat_le p.glwe_bound 40) (drop 9 (limited p)) t8.1 in
-    let t10 = none-sound 10 p.lwe_bound (nat_le p.lwe_bound 40) (drop 10 (limited p)) t9.1 in
-    let t11 = none-sound 11 (key_words p) (nat_le (key_words p) (2 ^ 24)) (drop 11 (limited p)) t10.1 in
+    let n = none-append 1 (take 10 (limited p)) (drop 10 (limited p)) o.0 in
+    let k = none-sound 11 (key_words p) (nat_le (key_words p) (2 ^ 24)) [] n.1 in
     record {
-      fields = pass_fields p (record {
-        message_bits = t1.0;
-        glwe_dim = t2.0;
-        poly_size = t3.0;
-        lwe_dim = t4.0;
-        pbs_base_log = t5.0;
-        pbs_level = t6.0;
-        ks_base_log = t7.0;
-        ks_level = t8.0;
-        glwe_bound = t9.0;
-        lwe_bound = t10.0;
-      });
-      key = at_most-is (key_words p) (2 ^ 24) t11.0;
+      fields = pass_fields p (none_pass p n.0);
+      key = at_most-is (key_words p) (2 ^ 24) k.0;
       wide = at_most-is (2 * plaintexts p.message_bits) p.poly_size (none-unless (nat_le (2 * plaintexts p.message_bits) p.poly_size) (NarrowBox p.poly_size (plaintexts p.message_bits)) b.0);
       below = below-is (left_of p) (right_of p) (none-unless (nat_lt (left_of p) (right_of p)) (Noise (left_of p) (right_of p)) b.1);
     }

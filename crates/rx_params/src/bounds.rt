@@ -1,7 +1,7 @@
 //! The worst-case sums of a parameter set, and the check that it is accepted.
-ghost use Rattle.std.specs.Prelude.{◌≡◌, ◌↔◌, ℕ, ◌+◌, ◌*◌, ◌^◌, ◌<◌, ◌≤◌, ◌&&◌, IsOk, IfErr, IsTrue, Some, nat_le};
+ghost use Rattle.std.specs.Prelude.{◌≡◌, ◌↔◌, ℕ, ◌+◌, ◌*◌, ◌^◌, ◌<◌, ◌≤◌, ◌&&◌, IsOk, IfErr, IsTrue, Some, nat_le, take};
 ghost use Rattle.rx_params.specs.Derived.{key_words, left_of, right_of, bounds_of, large_dim, rest_of, step_of, boot_of, base_of, switch_of, round_of};
-ghost use Rattle.rx_params.specs.Acceptance.{Accepts, FieldsInRange, checked, refusal_of, is_within, is_poly_size};
+ghost use Rattle.rx_params.specs.Acceptance.{Accepts, FieldsInRange, checked, refusal_of, limited, is_within, is_poly_size};
 ghost use Rattle.rx_laws.specs.Decode.{plaintexts};
 
 use crate::Params;
@@ -82,38 +82,34 @@ fn check_fields(p: &Params) -> Result<(), Refused>
     ensures in_range { IsOk result ↔ FieldsInRange p.now }
     ensures first { IfErr result (λ refused. refusal_of p.now ≡ Some refused) }
 {
-    if !is_within(2, 3, p.message_bits) {
-        Err(outside(1, p.message_bits))
-    } else if !is_within(1, 4, p.glwe_dim) {
-        Err(outside(2, p.glwe_dim))
-    } else if !is_poly_size(p.poly_size) {
-        Err(outside(3, p.poly_size))
-    } else if !is_within(1, 1024, p.lwe_dim) {
-        Err(outside(4, p.lwe_dim))
-    } else if !is_within(1, 24, p.pbs_base_log) {
-        Err(outside(5, p.pbs_base_log))
-    } else if !are_digits(p.pbs_base_log, p.pbs_level) {
-        Err(outside(6, p.pbs_level))
-    } else if !is_within(1, 24, p.ks_base_log) {
-        Err(outside(7, p.ks_base_log))
-    } else if !are_digits(p.ks_base_log, p.ks_level) {
-        Err(outside(8, p.ks_level))
-    } else if !is_within(0, 40, p.glwe_bound) {
-        Err(outside(9, p.glwe_bound))
-    } else if !is_within(0, 40, p.lwe_bound) {
-        Err(outside(10, p.lwe_bound))
-    } else {
-        Ok(())
+    let fields = limited_fields(p);
+    for (place, &(value, is_inside)) in fields.iter().enumerate() {
+        if !is_inside {
+            return Err(Refused::Limit {
+                field: place as u32 + 1,
+                value: u64::from(value),
+            });
+        }
     }
+    Ok(())
 }
 
-fn outside(field: u32, value: u32) -> Refused
-    ensures { result ≡ Refused.Limit field value }
+/// The ten fields in their order, and whether each is within its limit.
+fn limited_fields(p: &Params) -> [(u32, bool); 10]
+    ensures { result ≡ take 10 (limited p.now) }
 {
-    Refused::Limit {
-        field,
-        value: u64::from(value),
-    }
+    [
+        (p.message_bits, is_within(2, 3, p.message_bits)),
+        (p.glwe_dim, is_within(1, 4, p.glwe_dim)),
+        (p.poly_size, is_poly_size(p.poly_size)),
+        (p.lwe_dim, is_within(1, 1024, p.lwe_dim)),
+        (p.pbs_base_log, is_within(1, 24, p.pbs_base_log)),
+        (p.pbs_level, are_digits(p.pbs_base_log, p.pbs_level)),
+        (p.ks_base_log, is_within(1, 24, p.ks_base_log)),
+        (p.ks_level, are_digits(p.ks_base_log, p.ks_level)),
+        (p.glwe_bound, is_within(0, 40, p.glwe_bound)),
+        (p.lwe_bound, is_within(0, 40, p.lwe_bound)),
+    ]
 }
 
 fn is_within(low: u32, high: u32, n: u32) -> bool

@@ -11,7 +11,7 @@ use Rattle.rx_codec.specs.declared.fault.CodecFault.TheVariants.{Magic, Short, L
 use Rattle.rx_server.specs.declared.fault.InputFault.TheVariants.{Degree}
 use Rattle.rx_report.specs.declared.refusal.Kind.{Kind}
 use Rattle.rx_report.specs.declared.refusal.Kind.TheVariants.{Malformed, NotAccepted, Mismatch, Inputs, Damaged, Limit}
-use Rattle.rx_report.specs.Reports.{status_of, Report, usage_line, too_long, malformed_text, not_accepted, illegal_net, malformed_binary, difference_of, mismatch, wrong_width, damaged, wrong_input, wrong_workers, wide_board}
+use Rattle.rx_report.specs.Reports.{status_of, Report, usage_line, too_long, malformed_text, not_accepted, illegal_net, malformed_binary, difference_of, mismatch, wrong_width, damaged, wrong_input, wrong_workers, many_jobs, wide_board}
 
 statuses : (status_of Malformed ≡ 5) × (status_of NotAccepted ≡ 6) × (status_of Mismatch ≡ 7) × (status_of Inputs ≡ 8) × (status_of Damaged ≡ 9) × (status_of Limit ≡ 10)
 statuses = (refl, refl, refl, refl, refl, refl)
@@ -70,6 +70,6 @@ damages : damaged (record { name = codes "a"; block = 0; decoded = 3; degree = 2
 unfolding digits
 damages = refl
 
-limits : (wrong_workers 0 ≡ reported Limit (codes "limit workers 0")) × (wide_board 33554826 ≡ reported Limit (codes "limit board 33554826"))
+limits : (wrong_workers 0 ≡ reported Limit (codes "limit workers 0")) × (many_jobs 68208 ≡ reported Limit (codes "limit jobs 68208")) × (wide_board 33554826 ≡ reported Limit (codes "limit board 33554826"))
 unfolding digits
-limits = (refl, refl)
+limits = (refl, refl, refl)

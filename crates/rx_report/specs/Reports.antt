@@ -128,9 +128,12 @@ wrong_input (Degree name value limit) =
 wrong_input (TooNoisy name value limit) =
     (Inputs, codes "inputs " ++ (name ++ (codes " noise " ++ (decimal value ++ (codes " " ++ (decimal limit ++ 10 ∷ []))))))
 
--- ---- limits of a run
+-- ---- limits of a run: its workers, its jobs, the words of its board
 abbrev pub wrong_workers : ℕ → Report
 wrong_workers count = (Limit, codes "limit workers " ++ (decimal count ++ 10 ∷ []))
+
+abbrev pub many_jobs : ℕ → Report
+many_jobs count = (Limit, codes "limit jobs " ++ (decimal count ++ 10 ∷ []))
 
 abbrev pub wide_board : ℕ → Report
 wide_board words = (Limit, codes "limit board " ++ (decimal words ++ 10 ∷ []))

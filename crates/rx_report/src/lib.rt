@@ -8,7 +8,7 @@ mod reports;
 pub use difference::{Difference, first_difference};
 pub use refusal::{Kind, Refusal};
 pub use reports::{
-    damaged, malformed_binary, malformed_text, mismatch, not_accepted, too_long, wide_board,
+    damaged, malformed_binary, many_jobs, malformed_text, mismatch, not_accepted, too_long, wide_board,
     wrong_input, wrong_width, wrong_workers,
 };
 

@@ -1,7 +1,7 @@
 //! The lines of refusals. A file has the name that the words of the command give it.
 ghost use Rattle.std.specs.Prelude.{◌≡◌, IfOk, Some, string_bytes};
 ghost use Rattle.rx_params.specs.declared.params.Params.{Params};
-ghost use Rattle.rx_report.specs.Reports.{too_long, malformed_text, not_accepted, malformed_binary, illegal_net, net_words, mismatch, wrong_width, damaged, wrong_input, wrong_workers, wide_board, cause_word, field_word};
+ghost use Rattle.rx_report.specs.Reports.{too_long, malformed_text, not_accepted, malformed_binary, illegal_net, net_words, mismatch, wrong_width, damaged, wrong_input, wrong_workers, many_jobs, wide_board, cause_word, field_word};
 
 use crate::difference::Difference;
 use crate::{Kind, Refusal};
@@ -190,6 +190,14 @@ pub fn wrong_workers(alloc: Global, count: u64) -> Result<Refusal, AllocError>
     ensures { IfOk result (λ refusal. refusal ≡ wrong_workers count) }
 {
     let line = format!(in alloc; "limit workers {count}\n")?;
+    Ok(Refusal::new(Kind::Limit, line))
+}
+
+/// More jobs than a net may have.
+pub fn many_jobs(alloc: Global, count: u64) -> Result<Refusal, AllocError>
+    ensures { IfOk result (λ refusal. refusal ≡ many_jobs count) }
+{
+    let line = format!(in alloc; "limit jobs {count}\n")?;
     Ok(Refusal::new(Kind::Limit, line))
 }
 

@@ -1,5 +1,5 @@
 //! The lines of refusals, each with its status.
-use crate::{Refusal, malformed_binary, wide_board, wrong_input, wrong_workers};
+use crate::{Refusal, malformed_binary, many_jobs, wide_board, wrong_input, wrong_workers};
 use rx_codec::CodecFault;
 use rx_net::NetFault;
 use rx_params::Name;
@@ -95,6 +95,8 @@ fn inputs_that_do_not_fit(rt: HostRuntime) -> Result<(), Fail> {
 fn limits_of_a_run(rt: HostRuntime) -> Result<(), Fail> {
     let workers = wrong_workers(rt.alloc(), 65)?;
     expect_line(&rt, &workers, 10, "limit workers 65\n");
+    let jobs = many_jobs(rt.alloc(), 68_208)?;
+    expect_line(&rt, &jobs, 10, "limit jobs 68208\n");
     let board = wide_board(rt.alloc(), 33_554_433)?;
     expect_line(&rt, &board, 10, "limit board 33554433\n");
     Ok(())

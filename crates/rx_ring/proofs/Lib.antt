@@ -1,5 +1,7 @@
 pub mod Polynomial
 pub mod Rotation
+pub mod Monomial
+pub mod Greatest
 pub mod Congruence
 pub mod Parts
 pub mod Writes

@@ -1,17 +1,18 @@
 -- Laws of products, of ciphertexts over polynomials and of their turns, as a contract can name them.
-use Rattle.std.specs.Prelude.{ℕ, ℤ, pos, suc, ◌+ℤ◌, ◌-ℤ◌, ◌*ℤ◌, ◌-◌, ◌*◌, ◌^◌, ◌<◌, ◌≤◌, ◌≡◌, List}
+use Rattle.std.specs.Prelude.{ℕ, ℤ, pos, suc, ◌+ℤ◌, ◌-ℤ◌, ◌*ℤ◌, ◌+◌, ◌-◌, ◌*◌, ◌^◌, ◌<◌, ◌≤◌, ◌≡◌, List}
 use Rattle.std.specs.Int.RustNames.{unsigned_abs}
 use Rattle.rx_laws.specs.Torus.{word, distance}
 use Rattle.rx_laws.specs.Digits.{digit}
 use Rattle.rx_laws.specs.Lwe.{lwe_phase}
-use Rattle.rx_ring.specs.Polynomial.{product, turns}
+use Rattle.rx_ring.specs.Polynomial.{product, rotated, turns, monomial}
 use Rattle.rx_ring.specs.Parts.{of_parts, AreParts}
 use Rattle.rx_ring.specs.Glwe.{glwe_phase, glwe_hiding, external, extracted, flat}
 use Rattle.rx_ring.specs.Keys.{level_weight, IsBitKey, ggsw_hidden, IsGgsw}
 use Rattle.rx_ring.specs.Rotation.{turn}
-use Rattle.rx_ring.specs.Noise.{AreDigits, external_bound, turn_bound, turns_so_far}
+use Rattle.rx_ring.specs.Noise.{AreDigits, external_bound, turn_bound, turns_so_far, greatest_distance}
 
--- the product is linear in each argument, commutative and associative, and a turn passes through it
+-- The product is linear in each argument, commutative and associative, and a turn passes through it. A turn by t is the product
+-- by X ^ t; turns add, all 2 * n are none, and none changes the greatest distance.
 pub record ProductLaws : Type 0 where
   pub adds_left : (n : ℕ) (a b c : ℕ → ℤ) (i : ℕ) → i < n → product n (λ j. a j +ℤ b j) c i ≡ product n a c i +ℤ product n b c i
   pub adds_right : (n : ℕ) (a b c : ℕ → ℤ) (i : ℕ) → i < n → product n a (λ j. b j +ℤ c j) i ≡ product n a b i +ℤ product n a c i
@@ -20,6 +21,11 @@ pub record ProductLaws : Type 0 where
   pub commutes : (n : ℕ) (a b : ℕ → ℤ) (i : ℕ) → i < n → product n a b i ≡ product n b a i
   pub associates : (n : ℕ) (a b c : ℕ → ℤ) (i : ℕ) → i < n → product n (product n a b) c i ≡ product n a (product n b c) i
   pub turns_through : (n : ℕ) (a b : ℕ → ℤ) (t i : ℕ) → i < n → product n (turns n a t) b i ≡ turns n (product n a b) t i
+  pub turn_is_product : (n : ℕ) (a : ℕ → ℤ) (t i : ℕ) → i < n → turns n a t i ≡ product n (monomial n t) a i
+  pub turn_is_rotation : (n : ℕ) (a : ℕ → ℤ) (t i : ℕ) → t ≤ 2 * n → i < n → turns n a t i ≡ rotated n a t i
+  pub turns_add : (n : ℕ) (a : ℕ → ℤ) (s t i : ℕ) → turns n (turns n a s) t i ≡ turns n a (s + t) i
+  pub whole_turn : (n : ℕ) (a : ℕ → ℤ) (i : ℕ) → i < n → turns n a (2 * n) i ≡ a i
+  pub turn_keeps_distance : (n : ℕ) (a : ℕ → ℤ) (t : ℕ) → greatest_distance n (turns n a t) ≡ greatest_distance n a
 
 -- The phase of a ciphertext that hides a polynomial is that polynomial and the noise, coefficient by coefficient. Rows that hide
 -- what those of an encrypted bit have to hide are an encryption of the bit.

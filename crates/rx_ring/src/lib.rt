@@ -7,7 +7,8 @@ ghost use Rattle.rx_ring.specs.Laws.{ProductLaws, GlweLaws, ExtractionLaws, Exte
 ghost use Rattle.rx_ring.specs.BootstrapLaws.{CombinationLaws, KeySwitchLaws, ModulusSwitchLaws, AccumulatorLaws, BootstrapLaws};
 
 /// The product of polynomials of n coefficients is linear in each argument, commutative and associative,
-/// and a turn passes through it.
+/// and a turn passes through it. A turn by t is the product by `X^t`, for every t. Turns add, a turn by 2n is
+/// nothing, and the greatest distance of the coefficients is the same after a turn.
 pub fn product_laws()
     ensures { ProductLaws }
 {}

@@ -11,7 +11,7 @@ use Rattle.rx_codec.specs.declared.cipher.Cipher.{Cipher}
 use Rattle.rx_codec.specs.declared.cipher.Item.{Item}
 use Rattle.rx_server.specs.declared.fault.InputFault.TheVariants.{Missing, Twice, Form, Degree, Noise}
 use Rattle.rx_server.specs.Inputs.{items_of, first_fault, blocks_found, digits_found}
-use Rattle.rx_server.specs.Outputs.{output_item, items_over, outputs_cipher, values_of}
+use Rattle.rx_server.specs.Outputs.{output_item, items_over, outputs_cipher}
 
 abbrev block : ℕ → ℕ → ℕ → Block
 block number degree noise = record { words = number ∷ []; degree = degree; noise = noise }
@@ -77,6 +77,3 @@ whole_file = refl
 
 shared : items_over (output (codes "s") 4 (1 ∷ 0 ∷ []) ∷ output (codes "t") 4 (0 ∷ 0 ∷ []) ∷ []) (block 5 3 1 ∷ block 6 3 1 ∷ block 7 3 1 ∷ block 8 3 1 ∷ []) ≡ item (codes "s") (block 5 3 1 ∷ block 6 3 1 ∷ []) ∷ item (codes "t") (block 7 3 1 ∷ block 8 3 1 ∷ []) ∷ []
 shared = refl
-
-output_values : values_of (7 ∷ 8 ∷ []) (output (codes "s") 4 (1 ∷ 0 ∷ 1 ∷ [])) ≡ 8 ∷ 7 ∷ 8 ∷ []
-output_values = refl

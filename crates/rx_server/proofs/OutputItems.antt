@@ -14,6 +14,7 @@ use Rattle.rx_params.specs.Kinds.{greatest, block_count, is_form}
 use Rattle.rx_net.specs.declared.net.NetOutput.{NetOutput}
 use Rattle.rx_net.specs.declared.net.Net.{Net}
 use Rattle.rx_net.specs.Cells.{cell_count, degree, noise}
+use Rattle.rx_net.specs.Numbers.{values_of}
 use Rattle.rx_net.specs.Legal.{InTurn, Legal, is_output, are_cells, names_output}
 use Rattle.rx_net.proofs.Fits.{cells_below}
 use Rattle.rx_block.specs.declared.block.Block.{Block}
@@ -24,7 +25,7 @@ use Rattle.rx_block.proofs.KeptLists.{numbered_kept}
 use Rattle.rx_codec.specs.CipherFile.{has_item, IsBlock, IsItem, ItemsOnce, IsCipher}
 use Rattle.rx_codec.specs.Kept.{AreItemsKept}
 use Rattle.rx_codec.proofs.Ciphers.{eq_symm}
-use Rattle.rx_server.specs.Outputs.{output_item, items_over, outputs_cipher, values_of}
+use Rattle.rx_server.specs.Outputs.{output_item, items_over, outputs_cipher}
 use Rattle.rx_server.specs.Laws.{IsBlockWithin, AreCellBlocks}
 
 -- ---- blocks shared out among the outputs

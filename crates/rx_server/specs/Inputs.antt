@@ -1,8 +1,9 @@
 -- The inputs of a net, found among the items of ciphertext files.
-use Rattle.std.specs.Prelude.{ℕ, Bool, true, false, nat_lt, ◌&&◌, ◌==◌, List, [], ◌∷◌, ◌++◌, Option, Some, None, if◌then◌else◌}
+use Rattle.std.specs.Prelude.{ℕ, ◌≡◌, Bool, true, false, nat_lt, ◌&&◌, ◌==◌, List, [], ◌∷◌, ◌++◌, Option, Some, None, if◌then◌else◌, Result, Ok, Err, Vec}
 use Rattle.std.specs.List.{flat_map, filter}
 use Rattle.std.specs.Str.{bytes_eq}
 use Rattle.std.specs.Option.{option_or}
+use Rattle.std.specs.declared.alloc.Global.{Global}
 use Rattle.rx_params.specs.declared.kind.Kind.{Kind}
 use Rattle.rx_params.specs.declared.kind.Kind.TheVariants.{Int, Bit}
 use Rattle.rx_net.specs.declared.net.NetInput.{NetInput}
@@ -11,6 +12,8 @@ use Rattle.rx_codec.specs.declared.cipher.Item.{Item}
 use Rattle.rx_codec.specs.declared.cipher.Cipher.{Cipher}
 use Rattle.rx_server.specs.declared.fault.InputFault.{InputFault}
 use Rattle.rx_server.specs.declared.fault.InputFault.TheVariants.{Missing, Twice, Form, Degree, Noise}
+use Rattle.rx_server.specs.declared.fault.GatherError.{GatherError}
+use Rattle.rx_server.specs.declared.fault.GatherError.TheVariants.{Input, Memory}
 
 -- the items of some files, in order
 abbrev pub items_of : List Cipher → List Item
@@ -52,6 +55,12 @@ first_fault (input ∷ inputs) items = option_or (found_fault input (named input
 -- the blocks of the inputs, in the order of the net
 abbrev pub blocks_found : List NetInput → List Item → List Block
 blocks_found inputs items = flat_map (λ input. flat_map (λ item. item.blocks) (named input.name items)) inputs
+
+-- What gathering the inputs answers: all blocks where no input has a fault, else the first fault; want of memory apart.
+abbrev pub Gathers : List NetInput → List Item → Result (Vec Block Global) GatherError → Type 0
+Gathers inputs items (Ok blocks) = (first_fault inputs items ≡ None) × (blocks.items ≡ blocks_found inputs items)
+Gathers inputs items (Err (Input fault)) = first_fault inputs items ≡ Some fault
+Gathers inputs items (Err Memory) = Unit {0}
 
 -- the digits of the items of a name, where each item has those of the list at its place
 abbrev pub digits_named : List ℕ → List Item → List (List ℕ) → List ℕ

@@ -9,6 +9,7 @@ use Rattle.rx_net.specs.declared.net.NetInput.{NetInput}
 use Rattle.rx_net.specs.declared.net.NetOutput.{NetOutput}
 use Rattle.rx_net.specs.declared.net.Net.{Net}
 use Rattle.rx_net.specs.Cells.{input_cells, cell_count, degree, noise}
+use Rattle.rx_net.specs.Numbers.{values_of}
 use Rattle.rx_net.specs.Legal.{Legal}
 use Rattle.rx_block.specs.declared.block.Block.{Block}
 use Rattle.rx_block.specs.Combine.{no_block}
@@ -18,7 +19,7 @@ use Rattle.rx_codec.specs.declared.cipher.Cipher.{Cipher}
 use Rattle.rx_codec.specs.CipherFile.{IsCipher}
 use Rattle.rx_codec.specs.Kept.{AreItemsKept}
 use Rattle.rx_server.specs.Inputs.{items_of, first_fault, blocks_found, digits_found}
-use Rattle.rx_server.specs.Outputs.{output_item, outputs_cipher, values_of}
+use Rattle.rx_server.specs.Outputs.{output_item, outputs_cipher}
 
 -- Ciphertext files of one set.
 abbrev pub AreCiphersOf : Params → List Cipher → Type 0

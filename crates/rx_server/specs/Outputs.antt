@@ -1,5 +1,5 @@
 -- The outputs of a net, as the items of a ciphertext file.
-use Rattle.std.specs.Prelude.{ℕ, List, [], ◌∷◌, length, map, get_or, take, drop}
+use Rattle.std.specs.Prelude.{List, [], ◌∷◌, length, map, take, drop}
 use Rattle.rx_params.specs.declared.params.Params.{Params}
 use Rattle.rx_net.specs.declared.net.NetOutput.{NetOutput}
 use Rattle.rx_block.specs.declared.block.Block.{Block}
@@ -23,7 +23,3 @@ items_over (o ∷ os) blocks = item_with o (take (length o.cells) blocks) ∷ it
 -- the ciphertext of the outputs over the blocks of all cells
 abbrev pub outputs_cipher : Params → List Block → List NetOutput → Cipher
 outputs_cipher p cells outputs = record { params = p; items = map (output_item cells) outputs }
-
--- the values of an output's cells
-abbrev pub values_of : List ℕ → NetOutput → List ℕ
-values_of values output = map (λ cell. get_or values cell 0) output.cells

@@ -1,9 +1,9 @@
 //! The inputs of a net among the items of ciphertext files.
-ghost use Rattle.std.specs.Prelude.{◌≡◌, ◌≤◌, ◌++◌, ◌∷◌, [], IfOk, OnOk, MatchResult, None, Some, length};
+ghost use Rattle.std.specs.Prelude.{◌≡◌, ◌≤◌, ◌++◌, ◌∷◌, [], OnOk, MatchResult, None, Some, length};
 ghost use Rattle.std.specs.Option.{option_copied, option_to_list};
-ghost use Rattle.rx_server.specs.Inputs.{first_fault, found_fault, item_fault, tags_fault, named, items_of, blocks_found};
+ghost use Rattle.rx_server.specs.Inputs.{Gathers, found_fault, item_fault, tags_fault, named, items_of};
 
-use crate::InputFault;
+use crate::{GatherError, InputFault};
 use rx_block::Block;
 use rx_codec::{Cipher, Item};
 use rx_net::NetInput;
@@ -11,26 +11,34 @@ use rx_params::Name;
 use rx_torus::Words;
 use std::alloc::{AllocError, Global};
 
-/// The first input, in the order of the net, that the items of all files do not give as the net wants it.
-pub fn first_fault(inputs: &[NetInput], ciphers: &[Cipher]) -> Option<InputFault>
-    ensures { result ≡ first_fault inputs.now (items_of ciphers.now) }
+/// The blocks of all inputs, in the order of the net, each a copy of a block of its item. Each input is looked up once.
+/// The error is the first input that the items of all files do not give as the net wants it, or want of memory.
+pub fn gather_inputs(
+    alloc: Global,
+    inputs: &[NetInput],
+    ciphers: &[Cipher],
+) -> Result<Vec<Block>, GatherError>
+    ensures { Gathers inputs.now (items_of ciphers.now) result }
 {
+    let mut blocks = Vec::new(alloc);
     for input in inputs {
-        if let Some(fault) = input_fault(input, ciphers) {
-            return Some(fault);
-        }
+        let item = wanted_item(input, ciphers)?;
+        copy_blocks(alloc, &mut blocks, item.blocks.as_slice())?;
     }
-    None
+    Ok(blocks)
 }
 
-/// What is wrong with one input.
-fn input_fault(input: &NetInput, ciphers: &[Cipher]) -> Option<InputFault>
-    ensures { result ≡ found_fault input.now (named input.now.name (items_of ciphers.now)) }
+/// The only item that has the name of an input, where it is as the net wants it.
+fn wanted_item<'a>(input: &NetInput, ciphers: &'a [Cipher]) -> Result<&'a Item, InputFault>
+    ensures { MatchResult result
+        (λ item. (named input.now.name (items_of ciphers.now) ≡ item.now ∷ [])
+        × (item_fault input.now item.now ≡ None))
+        (λ fault. found_fault input.now (named input.now.name (items_of ciphers.now))
+        ≡ Some fault) }
 {
-    match only_item(input, ciphers) {
-        Ok(item) => item_fault(input, item),
-        Err(fault) => Some(fault),
-    }
+    let item = only_item(input, ciphers)?;
+    check_item(input, item)?;
+    Ok(item)
 }
 
 /// The only item that has the name of an input.
@@ -72,57 +80,40 @@ fn only_among<'a>(
     Ok(found)
 }
 
-/// What is wrong with the item that has the name of an input.
-fn item_fault(input: &NetInput, item: &Item) -> Option<InputFault>
-    ensures { result ≡ item_fault input.now item.now }
+/// Tests the item that has the name of an input.
+fn check_item(input: &NetInput, item: &Item) -> Result<(), InputFault>
+    ensures { MatchResult result (λ _. item_fault input.now item.now ≡ None)
+        (λ fault. item_fault input.now item.now ≡ Some fault) }
 {
     if item.kind == input.kind && item.bits == input.bits {
-        tags_fault(input, item.blocks.as_slice())
+        check_tags(input, item.blocks.as_slice())
     } else {
-        Some(InputFault::Form(input.name))
+        Err(InputFault::Form(input.name))
     }
 }
 
-/// The first block, from the least, whose degree or else noise tag is above that of the input.
-fn tags_fault(input: &NetInput, blocks: &[Block]) -> Option<InputFault>
-    ensures { result ≡ tags_fault input.now blocks.now }
+/// Tests the degree and then the noise tag of each block, from the least, against those of the input.
+fn check_tags(input: &NetInput, blocks: &[Block]) -> Result<(), InputFault>
+    ensures { MatchResult result (λ _. tags_fault input.now blocks.now ≡ None)
+        (λ fault. tags_fault input.now blocks.now ≡ Some fault) }
 {
     for block in blocks {
         if block.degree > input.degree {
-            return Some(InputFault::Degree {
+            return Err(InputFault::Degree {
                 name: input.name,
                 value: block.degree,
                 limit: input.degree,
             });
         }
         if block.noise > input.noise {
-            return Some(InputFault::Noise {
+            return Err(InputFault::Noise {
                 name: input.name,
                 value: block.noise,
                 limit: input.noise,
             });
         }
     }
-    None
-}
-
-/// The blocks of all inputs, in the order of the net, each a copy of a block of its item. There is no fault
-/// among the inputs: see `first_fault`.
-pub fn gather_inputs(
-    alloc: Global,
-    inputs: &[NetInput],
-    ciphers: &[Cipher],
-) -> Result<Vec<Block>, AllocError>
-    requires { first_fault inputs.now (items_of ciphers.now) ≡ None }
-    ensures { IfOk result (λ blocks. blocks.items
-        ≡ blocks_found inputs.now (items_of ciphers.now)) }
-{
-    let mut blocks = Vec::new(alloc);
-    for input in inputs {
-        let item = only_item(input, ciphers).unwrap();
-        copy_blocks(alloc, &mut blocks, item.blocks.as_slice())?;
-    }
-    Ok(blocks)
+    Ok(())
 }
 
 /// Adds copies of blocks.

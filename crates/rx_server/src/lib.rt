@@ -7,8 +7,8 @@ mod inputs;
 mod laws;
 mod outputs;
 
-pub use fault::InputFault;
-pub use inputs::{first_fault, gather_inputs};
+pub use fault::{GatherError, InputFault};
+pub use inputs::gather_inputs;
 pub use laws::server_laws;
 pub use outputs::output_items;
 

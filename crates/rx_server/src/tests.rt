@@ -1,5 +1,5 @@
 //! Inputs found in files and outputs made of blocks, with each way in which an input can be wrong.
-use crate::{InputFault, first_fault, gather_inputs, output_items};
+use crate::{GatherError, InputFault, gather_inputs, output_items};
 use rx_block::Block;
 use rx_codec::{Blocks, Cipher, Item, Items};
 use rx_net::{Cells, NetInput, NetOutput};
@@ -67,7 +67,6 @@ fn inputs_are_found_in_the_order_of_the_net(rt: HostRuntime) -> Result<(), Fail>
         cipher(alloc, p, item(alloc, a, 10, 2, 1)?)?,
     ];
     let inputs = [input(a), input(b)];
-    assert!(rt; first_fault(&inputs, &files).is_none());
     let mut words = Vec::new(alloc);
     for block in gather_inputs(alloc, &inputs, &files)? {
         words.extend_from_slice(block.words.as_slice())?;
@@ -89,57 +88,74 @@ fn three_files(rt: &impl Abort, alloc: Global) -> Result<[Cipher; 3], Fail> {
     ])
 }
 
+/// What is wrong with the first of some inputs that the files do not give.
+fn fault_of(
+    rt: &impl Abort,
+    alloc: Global,
+    inputs: &[NetInput],
+    files: &[Cipher],
+) -> Result<InputFault, Fail> {
+    match gather_inputs(alloc, inputs, files) {
+        Ok(_) => panic!(rt; "a fault"),
+        Err(GatherError::Input(fault)) => Ok(fault),
+        Err(memory) => Err(memory.into()),
+    }
+}
+
 #[test]
 fn an_input_is_missing_or_stands_twice(rt: HostRuntime) -> Result<(), Fail> {
-    let files = three_files(&rt, rt.alloc())?;
-    let missing = first_fault(&[input(name(&rt, "c"))], &files);
-    assert!(rt; matches!(missing, Some(InputFault::Missing(_))));
-    let twice = first_fault(&[input(name(&rt, "a")), input(name(&rt, "b"))], &files);
-    assert!(rt; matches!(twice, Some(InputFault::Twice(_))));
+    let alloc = rt.alloc();
+    let files = three_files(&rt, alloc)?;
+    let (a, b, c) = (name(&rt, "a"), name(&rt, "b"), name(&rt, "c"));
+    let missing = fault_of(&rt, alloc, &[input(c)], &files)?;
+    assert!(rt; matches!(missing, InputFault::Missing(_)));
+    let twice = fault_of(&rt, alloc, &[input(a), input(b)], &files)?;
+    assert!(rt; matches!(twice, InputFault::Twice(_)));
     Ok(())
 }
 
 #[test]
 fn an_input_has_other_bits_or_another_kind(rt: HostRuntime) -> Result<(), Fail> {
-    let files = three_files(&rt, rt.alloc())?;
+    let alloc = rt.alloc();
+    let files = three_files(&rt, alloc)?;
     let b = input(name(&rt, "b"));
-    let bits = first_fault(&[NetInput { bits: 6, ..b }], &files);
-    assert!(rt; matches!(bits, Some(InputFault::Form(_))));
-    let kind = first_fault(
-        &[NetInput {
-            kind: Kind::Bit,
-            ..b
-        }],
-        &files,
-    );
-    assert!(rt; matches!(kind, Some(InputFault::Form(_))));
+    let other_bits = NetInput { bits: 6, ..b };
+    let bits = fault_of(&rt, alloc, &[other_bits], &files)?;
+    assert!(rt; matches!(bits, InputFault::Form(_)));
+    let other_kind = NetInput {
+        kind: Kind::Bit,
+        ..b
+    };
+    let kind = fault_of(&rt, alloc, &[other_kind], &files)?;
+    assert!(rt; matches!(kind, InputFault::Form(_)));
     Ok(())
 }
 
 #[test]
 fn an_input_has_a_greater_degree_or_noise_tag(rt: HostRuntime) -> Result<(), Fail> {
-    let files = three_files(&rt, rt.alloc())?;
+    let alloc = rt.alloc();
+    let files = three_files(&rt, alloc)?;
     let b = input(name(&rt, "b"));
-    let degree = first_fault(&[b], &files);
+    let degree = fault_of(&rt, alloc, &[b], &files)?;
     assert!(rt;
         matches!(
             degree,
-            Some(InputFault::Degree {
+            InputFault::Degree {
                 value: 4,
                 limit: 3,
                 ..
-            })
+            }
         )
     );
-    let noise = first_fault(&[NetInput { degree: 4, ..b }], &files);
+    let noise = fault_of(&rt, alloc, &[NetInput { degree: 4, ..b }], &files)?;
     assert!(rt;
         matches!(
             noise,
-            Some(InputFault::Noise {
+            InputFault::Noise {
                 value: 2,
                 limit: 1,
                 ..
-            })
+            }
         )
     );
     Ok(())

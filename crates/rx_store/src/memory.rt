@@ -1,5 +1,5 @@
 //! A store and a sink in memory, which fail at the calls of a list.
-ghost use Rattle.std.specs.Prelude.{◌≡◌, ◌++◌, OnOk, OnErr, Some};
+ghost use Rattle.std.specs.Prelude.{◌≡◌, ◌++◌, OnOk, OnErr, IsOk, Some, None, Err, false, []};
 ghost use Rattle.std.specs.Option.{option_copied};
 ghost use Rattle.rx_store.specs.Files.{file_at, with_file};
 ghost use Rattle.rx_store.specs.MapFiles.{files_in};
@@ -33,7 +33,8 @@ impl Calls {
     }
 }
 
-/// Files in an ordered map. Exactly the listed calls of `read` and `write` fail, and change no file.
+/// Files in an ordered map. Exactly the listed calls of `read` and `write` fail, and change no file. A read that is
+/// not listed, of a name that no file has, wants no memory.
 #[derive(Drop)]
 pub struct MemStore {
     alloc: Global,
@@ -132,6 +133,8 @@ impl Store for MemStore {
         ensures reads { ReadCounts self.old.read_faults self.new.read_faults result }
         ensures writes { self.new.write_faults ≡ self.old.write_faults }
         ensures listed { read_failed result ≡ is_listed self.old.failing self.old.next_call }
+        ensures missing { is_listed self.old.failing self.old.next_call ≡ false
+            → file_at self.old.files name.now ≡ None → result ≡ Err ReadError.Missing }
         ensures whole { self.new ≡ after_read self.old }
     {
         if self.calls.fails() {
@@ -167,7 +170,8 @@ impl Store for MemStore {
     }
 }
 
-/// Output kept as a list of bytes. Exactly the listed calls of `put` fail, and append nothing.
+/// Output kept as a list of bytes. Exactly the listed calls of `put` fail, and append nothing. A `put` of nothing
+/// that is not listed wants no memory.
 #[derive(Drop)]
 pub struct MemSink {
     bytes: Vec<u8>,
@@ -220,6 +224,8 @@ impl Sink for MemSink {
         ensures appended { OnOk result
             (self.new ≡ record (after_put self.old) { bytes = self.old.bytes ++ piece.now }) }
         ensures refused { OnErr result (self.new ≡ after_put self.old) }
+        ensures empty { is_listed self.old.failing self.old.next_call ≡ false → piece.now ≡ []
+            → IsOk result }
     {
         if self.calls.fails() {
             self.faults = self.faults.saturating_add(1);

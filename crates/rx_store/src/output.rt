@@ -1,5 +1,5 @@
 //! A sink over a writer of the system. It tells nothing of what was written.
-ghost use Rattle.std.specs.Prelude.{◌≡◌, OnErr, OnOk, None};
+ghost use Rattle.std.specs.Prelude.{◌≡◌, IsOk, [], OnErr, OnOk, None};
 ghost use Rattle.std.specs.Io.KnownBytes.{Appends};
 ghost use Rattle.rx_store.specs.Counts.{counted};
 ghost use Rattle.rx_store.specs.Failed.{write_failed};
@@ -11,7 +11,7 @@ use crate::{Sink, WriteError};
 use std::io::Write;
 use std::marker::Model;
 
-/// A writer, as the runtime's standard output. It counts each failure.
+/// A writer, as the runtime's standard output. It counts each failure; to put nothing is always done.
 #[derive(Drop)]
 pub struct OutSink<W: Write> {
     writer: W,
@@ -48,6 +48,7 @@ impl<W: Write> Sink for OutSink<W> {
         ensures counted { self.new.faults ≡ counted (write_failed result) self.old.faults }
         ensures whole { OnOk result (Appends self.old.taken self.new.taken piece.now) }
         ensures part { OnErr result (TakesPart self.old.taken self.new.taken piece.now) }
+        ensures empty { piece.now ≡ [] → IsOk result × (self.new.faults ≡ self.old.faults) }
     {
         let result = write_whole(&mut self.writer, piece);
         if let Err(WriteError::Failed) = &result {

@@ -1,6 +1,7 @@
 //! What stores and outputs answer and leave, in memory and over the real thing.
 use crate::whole_writes::write_whole;
 use crate::{DirStore, MemSink, MemStore, OutSink, ReadError, Sink, Store, WriteError};
+use std::alloc::{AllocError, Global};
 use std::io::Write;
 use std::test::Fail;
 
@@ -79,6 +80,33 @@ fn a_real_file_is_written_and_read_back(rt: HostRuntime) -> Result<(), Fail> {
         assert!(rt; matches!(answer, Err(ReadError::Failed)), "at {name}");
     }
     assert!(rt; matches!(store.write(".", b"1"), Err(WriteError::Failed)));
+    Ok(())
+}
+
+/// So many bytes, of which neighbours differ.
+fn some_bytes(alloc: Global, size: u32) -> Result<Vec<u8>, AllocError> {
+    (0..size).map(|place| (place % 251) as u8).collect(alloc)
+}
+
+/// The first size of which a file is not read as it was written. All are written over one another.
+fn first_lost<S: Store>(alloc: Global, store: &mut S, sizes: &[u32]) -> Result<Option<u32>, Fail> {
+    for size in sizes {
+        let bytes = some_bytes(alloc, *size)?;
+        store.write("sized", &bytes)?;
+        let found = store.read(alloc, "sized", u64::from(*size))?;
+        if found.as_slice() != bytes.as_slice() {
+            return Ok(Some(*size));
+        }
+    }
+    Ok(None)
+}
+
+/// Files of one read and of more, the last one shorter than what it is written over.
+#[test]
+fn a_real_file_of_any_size_is_written_and_read_whole(rt: HostRuntime) -> Result<(), Fail> {
+    let mut store = DirStore::new(rt.clone()?);
+    let sizes = [0, 65535, 65536, 65537, 200_000, 3];
+    assert_eq!(rt; first_lost(rt.alloc(), &mut store, &sizes)?, None);
     Ok(())
 }
 

@@ -10,12 +10,14 @@ use Rattle.rx_report.specs.declared.refusal.Kind.TheVariants.{Malformed, NotAcce
 use Rattle.rx_tool.specs.declared.command.Command.{Command}
 use Rattle.rx_report.specs.Reports.{status_of, usage_line}
 use Rattle.rx_tool.specs.Commands.{command_refusal}
-use Rattle.rx_tool.specs.Got.{Got, whole, long, missing, got, refuses, as_report, DoesAll}
-use Rattle.rx_tool.specs.Left.{Prints}
-use Rattle.rx_tool.specs.Ran.{World, Untouched, Finished, Stopped, RanOut, Ran, refused, unread, no_memory, stopped, out_of_memory, finished}
+use Rattle.rx_tool.specs.Got.{Got, whole, long, missing, got, Given, refuses, as_report, DoesAll}
+use Rattle.rx_tool.specs.World.{World, ReadFailed, WriteFailed, PrintFailed, Untouched, Faultless, Prints}
+use Rattle.rx_tool.specs.Ran.{IsMissing, Finished, Stopped, RanOut, Ran, refused, unread, no_memory, stopped, out_of_memory, finished}
 use Rattle.rx_tool.proofs.GotLemmas.{one_told}
 use Rattle.rx_tool.proofs.KeptFiles.{kept_passes}
-use Rattle.rx_tool.specs.Told.{IsRefusal, RefusedBy, Refuses, SaysSo, Faultless, DoneBy, ShortOfMemory, FailedAt, LeftAlone, Complete, Absent, DecryptsKept, NeverDamaged}
+use Rattle.rx_tool.specs.Told.{IsRefusal, RefusedBy, Refuses, SaysSo, OfReading, ShortOfMemory, Accepted, LeftAlone, Complete, IsDecrypt, DecryptsKept, NeverDamaged}
+use Rattle.rx_tool.specs.Outcome.{IsOutcome}
+use Rattle.rx_tool.proofs.DamageLemmas.{of_decrypt}
 
 same_status : (a b : ℕ) (l m : List ℕ) → ◌≡◌ {A = Option (ℕ × List ℕ)} (Some (a, l)) (Some (b, m)) → a ≡ b
 same_status a b l m e = ap (λ o. (unwrap_or {T = ℕ × List ℕ} o (a, l)).0) e
@@ -100,199 +102,226 @@ known_status (Some command) (whole files) status line e = inr (kind_of (command_
 known_status (Some command) (long name size) status line e = inr (Limit, sym (same_status _ _ _ _ e))
 known_status (Some command) missing status line e = absurd (cc)
 
+-- words that are no command are refused
+not_accepted : (command : Option Command) (given : Got) → command ≡ None → refuses command given ≡ None → ⊥
+not_accepted command given none accept =
+    let e : refuses None given ≡ None = subst (λ c. refuses c given ≡ None) none accept in cc
+
+-- ---- the clauses, one by one
 module _ {command : Option Command} {before after : World} where
-  pub usage : {status : ℕ} → Ran command before after status → status ≡ 2 → command ≡ None
+  usage : {status : ℕ} → Ran command before after status → status ≡ 2 → command ≡ None
   usage (refused given status line is refuse same prints) two = no_command command given status line refuse two
   usage (unread has alone why) two = absurd (omega arith)
   usage (no_memory alone) two = absurd (omega arith)
-  usage (stopped given is accept stop why) two = absurd (omega arith)
+  usage (stopped given is accept stop) two = absurd (omega arith)
   usage (out_of_memory given is accept out) two = absurd (omega arith)
   usage (finished given is accept done) two = absurd (omega arith)
 
-  pub no_usage : {status : ℕ} → Ran command before after status → command ≡ None → (status ≡ 2) ⊎ (status ≡ 11)
+  no_usage : {status : ℕ} → Ran command before after status → command ≡ None → (status ≡ 2) ⊎ (status ≡ 11)
   no_usage (refused given status line is refuse same prints) none =
-      inl (sym (same_status _ _ _ _ (subst (λ c. refuses c given ≡ Some (status, line)) none refuse)))
+      let e : refuses None given ≡ Some (status, line) = subst (λ c. refuses c given ≡ Some (status, line)) none refuse in
+      inl (sym (same_status _ _ _ _ e))
   no_usage (unread has alone why) none = absurd (has none)
   no_usage (no_memory alone) none = inr refl
-  no_usage (stopped given is accept stop why) none =
-      let refuse : refuses None given ≡ None = subst (λ c. refuses c given ≡ None) none accept in absurd (cc)
+  no_usage (stopped given is accept stop) none = absurd (not_accepted command given none accept)
   no_usage (out_of_memory given is accept out) none = inr refl
-  no_usage (finished given is accept done) none =
-      let refuse : refuses None given ≡ None = subst (λ c. refuses c given ≡ None) none accept in absurd (cc)
+  no_usage (finished given is accept done) none = absurd (not_accepted command given none accept)
 
-  pub read_cause : {status : ℕ} → Ran command before after status → status ≡ 3 → Rose before.read_faults after.read_faults ⊎ IsSomeAnd before.files (λ f. got command f ≡ missing)
-  read_cause (refused given status line is refuse same prints) three = absurd ((of_refusal command given status line refuse).not_read three)
-  read_cause (unread has alone why) three = why
-  read_cause (no_memory alone) three = absurd (omega arith)
-  read_cause (stopped given is accept stop why) three = absurd (omega arith)
-  read_cause (out_of_memory given is accept out) three = absurd (omega arith)
-  read_cause (finished given is accept done) three = absurd (omega arith)
-
-  pub write_cause : {status : ℕ} → Ran command before after status → status ≡ 4 → Rose before.write_faults after.write_faults ⊎ Rose before.print_faults after.print_faults
-  write_cause (refused given status line is refuse same prints) four = absurd ((of_refusal command given status line refuse).not_write four)
-  write_cause (unread has alone why) four = absurd (omega arith)
-  write_cause (no_memory alone) four = absurd (omega arith)
-  write_cause (stopped given is accept stop why) four = why
-  write_cause (out_of_memory given is accept out) four = absurd (omega arith)
-  write_cause (finished given is accept done) four = absurd (omega arith)
-
-  pub refused_by : {status : ℕ} → Ran command before after status → IsRefusal status → RefusedBy command before.files status before.printed before.print_faults after.printed after.print_faults
-  refused_by (refused given status line is refuse same prints) it =
-      one_told before.files is (λ f g. subst (λ o. IsSomeAnd o (λ report. (status ≡ report.0) × Prints report.1 before.printed before.print_faults after.printed after.print_faults))
-      (sym refuse ∙ ap (refuses command) (sym g)) (refl, prints))
-  refused_by (unread has alone why) it = absurd (it.not_read refl)
-  refused_by (no_memory alone) it = absurd (it.not_memory refl)
-  refused_by (stopped given is accept stop why) it = absurd (it.not_write refl)
-  refused_by (out_of_memory given is accept out) it = absurd (it.not_memory refl)
-  refused_by (finished given is accept done) it = absurd (it.not_done refl)
-
-  pub usage_reported : {status : ℕ} → Ran command before after status → status ≡ 2 → Prints usage_line before.printed before.print_faults after.printed after.print_faults
+  usage_reported : {status : ℕ} → Ran command before after status → status ≡ 2 → Prints usage_line before after
   usage_reported (refused given status line is refuse same prints) two =
       let none : command ≡ None = no_command command given status line refuse two in
       let line_is = same_line _ _ _ _ (subst (λ c. refuses c given ≡ Some (status, line)) none refuse) in
-      subst (λ l. Prints l before.printed before.print_faults after.printed after.print_faults) (sym line_is) prints
+      subst (λ l. Prints l before after) (sym line_is) prints
   usage_reported (unread has alone why) two = absurd (omega arith)
   usage_reported (no_memory alone) two = absurd (omega arith)
-  usage_reported (stopped given is accept stop why) two = absurd (omega arith)
+  usage_reported (stopped given is accept stop) two = absurd (omega arith)
   usage_reported (out_of_memory given is accept out) two = absurd (omega arith)
   usage_reported (finished given is accept done) two = absurd (omega arith)
 
-  pub unwritten : {status : ℕ} → Ran command before after status → IsRefusal status ⊎ (status ≡ 3) → after.files ≡ before.files
+  read_cause : {status : ℕ} → Ran command before after status → status ≡ 3 → ReadFailed before after ⊎ IsMissing command before
+  read_cause (refused given status line is refuse same prints) three = absurd ((of_refusal command given status line refuse).not_read three)
+  read_cause (unread has alone why) three = why
+  read_cause (no_memory alone) three = absurd (omega arith)
+  read_cause (stopped given is accept stop) three = absurd (omega arith)
+  read_cause (out_of_memory given is accept out) three = absurd (omega arith)
+  read_cause (finished given is accept done) three = absurd (omega arith)
+
+  stops : {given : Got} → Stopped command given before after → WriteFailed before after ⊎ PrintFailed before after
+  stops (inl writing) = inl writing.failed
+  stops (inr printing) = inr printing.failed
+
+  write_cause : {status : ℕ} → Ran command before after status → status ≡ 4 → WriteFailed before after ⊎ PrintFailed before after
+  write_cause (refused given status line is refuse same prints) four = absurd ((of_refusal command given status line refuse).not_write four)
+  write_cause (unread has alone why) four = absurd (omega arith)
+  write_cause (no_memory alone) four = absurd (omega arith)
+  write_cause (stopped given is accept stop) four = stops stop
+  write_cause (out_of_memory given is accept out) four = absurd (omega arith)
+  write_cause (finished given is accept done) four = absurd (omega arith)
+
+  stop_does : {given : Got} → Stopped command given before after → given ≢ missing
+  stop_does (inl writing) = does_whole command _ writing.writes writing.lines writing.does
+  stop_does (inr printing) = does_whole command _ printing.writes printing.lines printing.does
+
+  absent_told : {status : ℕ} → Ran command before after status → IfSome before.files (λ f. got command f ≡ missing → (status ≡ 3) ⊎ (status ≡ 11))
+  absent_told (refused given status line is refuse same prints) =
+      one_told before.files is.told (λ f g none. absurd (missing_not_refused command f given status line g none refuse))
+  absent_told (unread has alone why) = any_told before.files (λ f none. inl refl)
+  absent_told (no_memory alone) = any_told before.files (λ f none. inr refl)
+  absent_told (stopped given is accept stop) = one_told before.files is.told (λ f g none. absurd (stop_does stop (sym g ∙ none)))
+  absent_told (out_of_memory given is accept out) = any_told before.files (λ f none. inr refl)
+  absent_told (finished given is accept done) =
+      one_told before.files is.told (λ f g none. absurd (does_whole command given done.writes done.lines done.does (sym g ∙ none)))
+
+  refused_by : {status : ℕ} → Ran command before after status → IsRefusal status → RefusedBy command before after status
+  refused_by (refused given status line is refuse same prints) it =
+      record { given = given; line = line; read = is; refusal = refuse; put = prints }
+  refused_by (unread has alone why) it = absurd (it.not_read refl)
+  refused_by (no_memory alone) it = absurd (it.not_memory refl)
+  refused_by (stopped given is accept stop) it = absurd (it.not_write refl)
+  refused_by (out_of_memory given is accept out) it = absurd (it.not_memory refl)
+  refused_by (finished given is accept done) it = absurd (it.not_done refl)
+
+  refuses_all : {status : ℕ} → Ran command before after status → Refuses command before after status
+  refuses_all (refused given status line is refuse same prints) =
+      one_told before.files is.told (λ f g. subst (λ o. IfSome o (SaysSo status before after))
+      (sym refuse ∙ ap (refuses command) (sym g)) (inl refl))
+  refuses_all (unread has alone (inl rose)) = any_told before.files (λ f. any_told (refuses command (got command f)) (λ report. inr (inr (refl, rose))))
+  refuses_all (unread has alone (inr none)) = if_missing before.files has none
+    where
+      if_missing : (files : Option Files) → command ≢ None → IsSomeAnd files (λ f. got command f ≡ missing) → IfSome files (λ f. IfSome (refuses command (got command f)) (SaysSo 3 before after))
+      if_missing None has none = tt
+      if_missing (Some f) has none = subst (λ o. IfSome o (SaysSo 3 before after)) (sym (missing_passes command (got command f) has none)) tt
+  refuses_all (no_memory alone) = any_told before.files (λ f. any_told (refuses command (got command f)) (λ report. inr (inl refl)))
+  refuses_all (stopped given is accept stop) =
+      one_told before.files is.told (λ f g. subst (λ o. IfSome o (SaysSo 4 before after)) (sym accept ∙ ap (refuses command) (sym g)) tt)
+  refuses_all (out_of_memory given is accept out) = any_told before.files (λ f. any_told (refuses command (got command f)) (λ report. inr (inl refl)))
+  refuses_all (finished given is accept done) =
+      one_told before.files is.told (λ f g. subst (λ o. IfSome o (SaysSo 0 before after)) (sym accept ∙ ap (refuses command) (sym g)) tt)
+
+  status_known : {status : ℕ} → Ran command before after status → IsRefusal status → (status ≡ 2) ⊎ ((kind : Kind) × (status ≡ status_of kind))
+  status_known (refused given status line is refuse same prints) it = known_status command given status line refuse
+  status_known (unread has alone why) it = absurd (it.not_read refl)
+  status_known (no_memory alone) it = absurd (it.not_memory refl)
+  status_known (stopped given is accept stop) it = absurd (it.not_write refl)
+  status_known (out_of_memory given is accept out) it = absurd (it.not_memory refl)
+  status_known (finished given is accept done) it = absurd (it.not_done refl)
+
+  unwritten : {status : ℕ} → Ran command before after status → IsRefusal status ⊎ (status ≡ 3) → after.files ≡ before.files
   unwritten (refused given status line is refuse same prints) it = same
   unwritten (unread has alone why) it = alone.same_files
   unwritten (no_memory alone) it = alone.same_files
-  unwritten (stopped given is accept stop why) (inl it) = absurd (it.not_write refl)
-  unwritten (stopped given is accept stop why) (inr three) = absurd (omega arith)
+  unwritten (stopped given is accept stop) (inl it) = absurd (it.not_write refl)
+  unwritten (stopped given is accept stop) (inr three) = absurd (omega arith)
   unwritten (out_of_memory given is accept out) (inl it) = absurd (it.not_memory refl)
   unwritten (out_of_memory given is accept out) (inr three) = absurd (omega arith)
   unwritten (finished given is accept done) (inl it) = absurd (it.not_done refl)
   unwritten (finished given is accept done) (inr three) = absurd (omega arith)
 
-  pub silent : {status : ℕ} → Ran command before after status → (status ≡ 3) ⊎ (status ≡ 11) → after.printed ≡ before.printed
+  silent : {status : ℕ} → Ran command before after status → (status ≡ 3) ⊎ (status ≡ 11) → after.printed ≡ before.printed
   silent (refused given status line is refuse same prints) (inl three) = absurd ((of_refusal command given status line refuse).not_read three)
   silent (refused given status line is refuse same prints) (inr eleven) = absurd ((of_refusal command given status line refuse).not_memory eleven)
   silent (unread has alone why) it = alone.same_printed
   silent (no_memory alone) it = alone.same_printed
-  silent (stopped given is accept stop why) (inl three) = absurd (omega arith)
-  silent (stopped given is accept stop why) (inr eleven) = absurd (omega arith)
+  silent (stopped given is accept stop) (inl three) = absurd (omega arith)
+  silent (stopped given is accept stop) (inr eleven) = absurd (omega arith)
   silent (out_of_memory given is accept out) it = out.silent
   silent (finished given is accept done) (inl three) = absurd (omega arith)
   silent (finished given is accept done) (inr eleven) = absurd (omega arith)
 
-  pub status_known : {status : ℕ} → Ran command before after status → IsRefusal status → (status ≡ 2) ⊎ ((kind : Kind) × (status ≡ status_of kind))
-  status_known (refused given status line is refuse same prints) it = known_status command given status line refuse
-  status_known (unread has alone why) it = absurd (it.not_read refl)
-  status_known (no_memory alone) it = absurd (it.not_memory refl)
-  status_known (stopped given is accept stop why) it = absurd (it.not_write refl)
-  status_known (out_of_memory given is accept out) it = absurd (it.not_memory refl)
-  status_known (finished given is accept done) it = absurd (it.not_done refl)
+  damage : {status : ℕ} → Ran command before after status → status ≡ 9 → IsDecrypt command
+  damage (refused given status line is refuse same prints) nine =
+      of_decrypt command given line (refuse ∙ ap (λ s. Some (s, line)) nine)
+  damage (unread has alone why) nine = absurd (omega arith)
+  damage (no_memory alone) nine = absurd (omega arith)
+  damage (stopped given is accept stop) nine = absurd (omega arith)
+  damage (out_of_memory given is accept out) nine = absurd (omega arith)
+  damage (finished given is accept done) nine = absurd (omega arith)
 
-  pub refuses_all : {status : ℕ} → Ran command before after status → Refuses command before.files status before.read_faults after.read_faults
-  refuses_all (refused given status line is refuse same prints) =
-      one_told before.files is (λ f g. subst (λ o. IfSome o (SaysSo status before.read_faults after.read_faults))
-      (sym refuse ∙ ap (refuses command) (sym g)) (inl refl))
-  refuses_all (unread has alone (inl rose)) = any_told before.files (λ f. any_told (refuses command (got command f)) (λ report. inr (inr (refl, rose))))
-  refuses_all (unread has alone (inr none)) = if_missing before.files has none
-    where
-      if_missing : (files : Option Files) → command ≢ None → IsSomeAnd files (λ f. got command f ≡ missing) → Refuses command files 3 before.read_faults after.read_faults
-      if_missing None has none = tt
-      if_missing (Some f) has none = subst (λ o. IfSome o (SaysSo 3 before.read_faults after.read_faults)) (sym (missing_passes command (got command f) has none)) tt
-  refuses_all (no_memory alone) = any_told before.files (λ f. any_told (refuses command (got command f)) (λ report. inr (inl refl)))
-  refuses_all (stopped given is accept stop why) =
-      one_told before.files is (λ f g. subst (λ o. IfSome o (SaysSo 4 before.read_faults after.read_faults)) (sym accept ∙ ap (refuses command) (sym g)) tt)
-  refuses_all (out_of_memory given is accept out) = any_told before.files (λ f. any_told (refuses command (got command f)) (λ report. inr (inl refl)))
-  refuses_all (finished given is accept done) =
-      one_told before.files is (λ f g. subst (λ o. IfSome o (SaysSo 0 before.read_faults after.read_faults)) (sym accept ∙ ap (refuses command) (sym g)) tt)
+  never_damaged : {status : ℕ} → ReadingLaws → FileLaws → Ran command before after status → NeverDamaged command before status
+  never_damaged reading laws (refused given status line is refuse same prints) =
+      one_told before.files is.told (λ f g kept nine.
+      kept_passes reading laws command given line (subst (DecryptsKept command) g kept) (refuse ∙ ap (λ s. Some (s, line)) nine))
+  never_damaged reading laws (unread has alone why) = any_told before.files (λ f kept nine. omega arith)
+  never_damaged reading laws (no_memory alone) = any_told before.files (λ f kept nine. omega arith)
+  never_damaged reading laws (stopped given is accept stop) = any_told before.files (λ f kept nine. omega arith)
+  never_damaged reading laws (out_of_memory given is accept out) = any_told before.files (λ f kept nine. omega arith)
+  never_damaged reading laws (finished given is accept done) = any_told before.files (λ f kept nine. omega arith)
 
-  pub done_by : {status : ℕ} → Ran command before after status → status ≡ 0 → DoneBy command before.files after.files before.printed after.printed
+  done_by : {status : ℕ} → Ran command before after status → status ≡ 0 → OfReading command before (λ given. Finished command given before after)
   done_by (refused given status line is refuse same prints) zero = absurd ((of_refusal command given status line refuse).not_done zero)
   done_by (unread has alone why) zero = absurd (omega arith)
   done_by (no_memory alone) zero = absurd (omega arith)
-  done_by (stopped given is accept stop why) zero = absurd (omega arith)
+  done_by (stopped given is accept stop) zero = absurd (omega arith)
   done_by (out_of_memory given is accept out) zero = absurd (omega arith)
-  done_by (finished given is accept done) zero = if_told before.files is done
-    where
-      if_told : (files : Option Files) → IfSome files (λ f. got command f ≡ given) → Finished command given files after.files before.printed after.printed → DoneBy command files after.files before.printed after.printed
-      if_told None is done = tt
-      if_told (Some f) is done = subst (λ g. Finished command g (Some f) after.files before.printed after.printed) (sym is) done
+  done_by (finished given is accept done) zero = (given, is, accept, done)
 
-  pub ran_out : {status : ℕ} → Ran command before after status → status ≡ 11 → ShortOfMemory command before.files after.files before.printed after.printed
+  stopped_by : {status : ℕ} → Ran command before after status → status ≡ 4 → OfReading command before (λ given. Stopped command given before after)
+  stopped_by (refused given status line is refuse same prints) four = absurd ((of_refusal command given status line refuse).not_write four)
+  stopped_by (unread has alone why) four = absurd (omega arith)
+  stopped_by (no_memory alone) four = absurd (omega arith)
+  stopped_by (stopped given is accept stop) four = (given, is, accept, stop)
+  stopped_by (out_of_memory given is accept out) four = absurd (omega arith)
+  stopped_by (finished given is accept done) four = absurd (omega arith)
+
+  ran_out : {status : ℕ} → Ran command before after status → status ≡ 11 → ShortOfMemory command before after
   ran_out (refused given status line is refuse same prints) eleven = absurd ((of_refusal command given status line refuse).not_memory eleven)
   ran_out (unread has alone why) eleven = absurd (omega arith)
-  ran_out (no_memory alone) eleven = if_told before.files alone
-    where
-      if_told : (files : Option Files) → Untouched files after.files before.printed after.printed → ShortOfMemory command files after.files before.printed after.printed
-      if_told None alone = tt
-      if_told (Some f) alone = inl alone
-  ran_out (stopped given is accept stop why) eleven = absurd (omega arith)
-  ran_out (out_of_memory given is accept out) eleven = if_told before.files is out
-    where
-      if_told : (files : Option Files) → IfSome files (λ f. got command f ≡ given) → RanOut command given files after.files before.printed after.printed → ShortOfMemory command files after.files before.printed after.printed
-      if_told None is out = tt
-      if_told (Some f) is out = inr (subst (λ g. RanOut command g (Some f) after.files before.printed after.printed) (sym is) out)
+  ran_out (no_memory alone) eleven = inl alone
+  ran_out (stopped given is accept stop) eleven = absurd (omega arith)
+  ran_out (out_of_memory given is accept out) eleven = inr (given, is, accept, out)
   ran_out (finished given is accept done) eleven = absurd (omega arith)
 
-  pub left_alone : {status : ℕ} → Ran command before after status → status ≡ 11 → LeftAlone command before.files after.files before.printed after.printed
+  left_alone : {status : ℕ} → Ran command before after status → status ≡ 11 → LeftAlone command before after
   left_alone (refused given status line is refuse same prints) eleven = absurd ((of_refusal command given status line refuse).not_memory eleven)
   left_alone (unread has alone why) eleven = absurd (omega arith)
-  left_alone (no_memory alone) eleven = if_told before.files alone
-    where
-      if_told : (files : Option Files) → Untouched files after.files before.printed after.printed → LeftAlone command files after.files before.printed after.printed
-      if_told None alone = tt
-      if_told (Some f) alone = λ _. alone
-  left_alone (stopped given is accept stop why) eleven = absurd (omega arith)
+  left_alone (no_memory alone) eleven = any_told before.files (λ f not_accepted. alone)
+  left_alone (stopped given is accept stop) eleven = absurd (omega arith)
   left_alone (out_of_memory given is accept out) eleven =
-      one_told before.files is (λ f g not_accepted. absurd (not_accepted (record {
+      one_told before.files is.told (λ f g not_accepted. absurd (not_accepted (record {
         not_refused = ap (refuses command) g ∙ accept;
         not_missing = λ none. does_whole command given out.writes out.lines out.does (sym g ∙ none);
       })))
   left_alone (finished given is accept done) eleven = absurd (omega arith)
 
-  pub complete : {status : ℕ} → Ran command before after status → Faultless before.read_faults after.read_faults before.write_faults after.write_faults before.print_faults after.print_faults → Complete command before.files status
+  complete : {status : ℕ} → Ran command before after status → Faultless before after → Complete command before status
   complete (refused given status line is refuse same prints) faultless =
-      one_told before.files is (λ f g accepted. let none : refuses command given ≡ None = ap (refuses command) (sym g) ∙ accepted.not_refused in absurd (cc))
+      one_told before.files is.told (λ f g accepted. let none : refuses command given ≡ None = ap (refuses command) (sym g) ∙ accepted.not_refused in absurd (cc))
   complete (unread has alone (inl rose)) faultless = absurd (faultless.no_read rose)
   complete (unread has alone (inr none)) faultless = if_missing before.files none
     where
-      if_missing : (files : Option Files) → IsSomeAnd files (λ f. got command f ≡ missing) → Complete command files 3
+      if_missing : (files : Option Files) → IsSomeAnd files (λ f. got command f ≡ missing) → IfSome files (λ f. Accepted command f → (◌≡◌ {A = ℕ} 3 0) ⊎ (◌≡◌ {A = ℕ} 3 11))
       if_missing None none = tt
       if_missing (Some f) none = λ accepted. absurd (accepted.not_missing none)
   complete (no_memory alone) faultless = any_told before.files (λ f accepted. inr refl)
-  complete (stopped given is accept stop (inl rose)) faultless = absurd (faultless.no_write rose)
-  complete (stopped given is accept stop (inr rose)) faultless = absurd (faultless.no_print rose)
+  complete (stopped given is accept (inl writing)) faultless = absurd (faultless.no_write writing.failed)
+  complete (stopped given is accept (inr printing)) faultless = absurd (faultless.no_print printing.failed)
   complete (out_of_memory given is accept out) faultless = any_told before.files (λ f accepted. inr refl)
   complete (finished given is accept done) faultless = any_told before.files (λ f accepted. inl refl)
 
-  -- the status of a write fault: the first writes were made
-  pub failed_at : {status : ℕ} → Ran command before after status → status ≡ 4 → FailedAt command before.files after.files before.printed after.printed
-  failed_at (refused given status line is refuse same prints) four = absurd ((of_refusal command given status line refuse).not_write four)
-  failed_at (unread has alone why) four = absurd (omega arith)
-  failed_at (no_memory alone) four = absurd (omega arith)
-  failed_at (stopped given is accept stop why) four = if_told before.files is stop
-    where
-      if_told : (files : Option Files) → IfSome files (λ f. got command f ≡ given) → Stopped command given files after.files before.printed after.printed → FailedAt command files after.files before.printed after.printed
-      if_told None is stop = tt
-      if_told (Some f) is stop = subst (λ g. Stopped command g (Some f) after.files before.printed after.printed) (sym is) stop
-  failed_at (out_of_memory given is accept out) four = absurd (omega arith)
-  failed_at (finished given is accept done) four = absurd (omega arith)
+-- a fact of whatever is told holds of what is told
+of_told : (P : Files → Type 0) (Q : Type 0) (files : Option Files) → IfSome files (λ f. P f → Q) → IsSomeAnd files P → Q
+of_told P Q None all some = absurd some
+of_told P Q (Some f) all some = all some
 
-  pub absent : {status : ℕ} → Ran command before after status → Absent command before.files status
-  absent (refused given status line is refuse same prints) =
-      one_told before.files is (λ f g none. absurd (missing_not_refused command f given status line g none refuse))
-  absent (unread has alone why) = any_told before.files (λ f none. inl refl)
-  absent (no_memory alone) = any_told before.files (λ f none. inr refl)
-  absent (stopped given is accept stop why) =
-      one_told before.files is (λ f g none. absurd (does_whole command given stop.writes stop.lines stop.does (sym g ∙ none)))
-  absent (out_of_memory given is accept out) = any_told before.files (λ f none. inr refl)
-  absent (finished given is accept done) =
-      one_told before.files is (λ f g none. absurd (does_whole command given done.writes done.lines done.does (sym g ∙ none)))
-
-  pub never_damaged : {status : ℕ} → ReadingLaws → FileLaws → Ran command before after status → NeverDamaged command before.files status
-  never_damaged reading laws (refused given status line is refuse same prints) =
-      one_told before.files is (λ f g kept nine.
-      let none : refuses command given ≡ None = kept_passes reading laws command given (subst (DecryptsKept command) g kept) in cc)
-  never_damaged reading laws (unread has alone why) = any_told before.files (λ f kept nine. omega arith)
-  never_damaged reading laws (no_memory alone) = any_told before.files (λ f kept nine. omega arith)
-  never_damaged reading laws (stopped given is accept stop why) = any_told before.files (λ f kept nine. omega arith)
-  never_damaged reading laws (out_of_memory given is accept out) = any_told before.files (λ f kept nine. omega arith)
-  never_damaged reading laws (finished given is accept done) = any_told before.files (λ f kept nine. omega arith)
+-- the whole contract
+pub outcome : {command : Option Command} {before after : World} {status : ℕ} → ReadingLaws → FileLaws → Ran command before after status → IsOutcome command before after status
+outcome {command} {before} {after} {status} reading laws ran = record {
+  usage = usage ran;
+  no_command = no_usage ran;
+  usage_reported = usage_reported ran;
+  read_cause = read_cause ran;
+  write_cause = write_cause ran;
+  absent = of_told _ _ before.files (absent_told ran);
+  refused = refused_by ran;
+  refusing = refuses_all ran;
+  known = status_known ran;
+  unwritten = unwritten ran;
+  silent = silent ran;
+  damage = damage ran;
+  undamaged = never_damaged reading laws ran;
+  done = done_by ran;
+  stopped = stopped_by ran;
+  ran_out = ran_out ran;
+  left_alone = left_alone ran;
+  complete = complete ran;
+}

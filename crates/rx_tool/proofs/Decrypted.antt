@@ -7,7 +7,7 @@ use Rattle.rx_codec.specs.declared.client.Client.{Client}
 use Rattle.rx_codec.specs.declared.cipher.Item.{Item}
 use Rattle.rx_codec.specs.declared.cipher.Cipher.{Cipher}
 use Rattle.rx_codec.specs.ClientFile.{ClientFile, client_from}
-use Rattle.rx_codec.specs.CipherFile.{CipherFile, cipher_from}
+use Rattle.rx_codec.specs.CipherFile.{CipherRead, cipher_from}
 use Rattle.rx_codec.specs.Kept.{AreItemsKept}
 use Rattle.rx_client.specs.Decrypt.{item_lines, kept_lines, first_damage}
 use Rattle.rx_report.specs.declared.difference.Difference.{Difference}
@@ -38,7 +38,7 @@ module _ (client input first second : List ℕ) (c : Client) (x : Cipher) (found
       ∙ ap (option_map damaged) none
 
   pub decrypted : (files : List (List ℕ)) (key : List ℕ) (items : List Item) (writes : List (List ℕ × List ℕ)) (lines : List ℕ) →
-      files ≡ first ∷ second ∷ [] → client_from first ≡ Ok c → cipher_from second ≡ Ok x → ClientFile first c → CipherFile second x →
+      files ≡ first ∷ second ∷ [] → client_from first ≡ Ok c → cipher_from second ≡ Ok x → ClientFile first c → CipherRead second x →
       found ≡ difference_of c.params x.params → found ≡ None → key ≡ large_key c.params c.seed → items ≡ x.items →
       AreLinesOf c.params key items lines → writes ≡ [] →
       (decrypt_refusal client input files ≡ None) × DecryptDoes files writes lines

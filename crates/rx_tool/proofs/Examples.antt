@@ -31,6 +31,7 @@ use Rattle.rx_tool.specs.declared.command.Source.TheVariants.{Named, File}
 use Rattle.rx_tool.specs.Check.{bounds_lines}
 use Rattle.rx_tool.specs.MakeClient.{seed_of}
 use Rattle.rx_tool.specs.Run.{word_number, values_refusal, jobs_line, output_digits}
+use Rattle.rx_tool.specs.Refusals.{limits_refusal}
 use Rattle.rx_tool.specs.Commands.{command_of, reads_of, command_refusal}
 use Rattle.rx_tool.specs.Got.{file_limit, whole, long, missing, got_one, refuses}
 use Rattle.rx_tool.specs.Left.{written}
@@ -117,23 +118,28 @@ unfolding digits client_from cipher_from params_at fields_at key_words rest_of s
 decrypt_refusals = (refl, refl)
 
 -- ---- a run over values: the net's message bits, then the sets of the files, then the inputs, then the workers
-abbrev key : ServerWords
-key = record { params = rx_test; boot = []; switch = [] }
-
 abbrev net_of : ℕ → List NetInput → Net
 net_of space inputs = record { space = space; inputs = inputs; jobs = []; outputs = [] }
 
 abbrev input_a : NetInput
 input_a = record { name = codes "a"; kind = Int; bits = 2; degree = 3; noise = 1 }
 
-run_refusals : (values_refusal key (codes "n") (net_of 3 (input_a ∷ [])) 0 (codes "f" ∷ []) (no_items rx_k2 ∷ []) ≡ Some (reported Mismatch (codes "mismatch n message_bits 2 3")))
-    × (values_refusal key (codes "n") (net_of 2 (input_a ∷ [])) 0 (codes "e" ∷ codes "f" ∷ []) (no_items rx_test ∷ no_items rx_k2 ∷ []) ≡ Some (reported Mismatch (codes "mismatch f glwe_dim 1 2")))
-    × (values_refusal key (codes "n") (net_of 2 (input_a ∷ [])) 0 [] [] ≡ Some (reported Inputs (codes "inputs a missing")))
-    × (values_refusal key (codes "n") (net_of 2 []) 0 [] [] ≡ Some (reported Limit (codes "limit workers 0")))
-    × (values_refusal key (codes "n") (net_of 2 []) 65 [] [] ≡ Some (reported Limit (codes "limit workers 65")))
-    × (values_refusal key (codes "n") (net_of 2 []) 64 [] [] ≡ None)
+run_refusals : (values_refusal rx_test (codes "n") (net_of 3 (input_a ∷ [])) 0 (codes "f" ∷ []) (no_items rx_k2 ∷ []) ≡ Some (reported Mismatch (codes "mismatch n message_bits 2 3")))
+    × (values_refusal rx_test (codes "n") (net_of 2 (input_a ∷ [])) 0 (codes "e" ∷ codes "f" ∷ []) (no_items rx_test ∷ no_items rx_k2 ∷ []) ≡ Some (reported Mismatch (codes "mismatch f glwe_dim 1 2")))
+    × (values_refusal rx_test (codes "n") (net_of 2 (input_a ∷ [])) 0 [] [] ≡ Some (reported Inputs (codes "inputs a missing")))
+    × (values_refusal rx_test (codes "n") (net_of 2 []) 0 [] [] ≡ Some (reported Limit (codes "limit workers 0")))
+    × (values_refusal rx_test (codes "n") (net_of 2 []) 65 [] [] ≡ Some (reported Limit (codes "limit workers 65")))
+    × (values_refusal rx_test (codes "n") (net_of 2 []) 64 [] [] ≡ None)
 unfolding digits large_dim
 run_refusals = (refl, refl, refl, refl, refl, refl)
+
+-- the workers before the jobs, and these before the board
+limits_in_order : (limits_refusal rx_2_2 65 68208 ≡ Some (reported Limit (codes "limit workers 65")))
+    × (limits_refusal rx_2_2 1 68208 ≡ Some (reported Limit (codes "limit jobs 68208")))
+    × (limits_refusal rx_2_2 1 65155 ≡ Some (reported Limit (codes "limit board 33554826")))
+    × (limits_refusal rx_2_2 1 65154 ≡ None)
+unfolding digits large_dim
+limits_in_order = (refl, refl, refl, refl)
 
 malformed_server : command_refusal (Run (codes "s") (codes "n") 0 (codes "o") []) (codes "RXC1" ∷ [] ∷ []) ≡ Some (reported Malformed (codes "malformed s magic"))
 unfolding server_from

@@ -42,6 +42,7 @@ module _ (reading : ReadingLaws) (laws : FileLaws) where
       ∙ not_damaged input c x digits of_client.fits.accepted same are
   decrypt_passes client input (first ∷ second ∷ more ∷ files) kept = absurd kept
 
-  pub kept_passes : (command : Option Command) (given : Got) → DecryptsKept command given → refuses command given ≡ None
-  kept_passes (Some (Decrypt client input)) (whole files) kept = ap (option_map as_report) (decrypt_passes client input files kept)
-  kept_passes _ _ kept = absurd kept
+  pub kept_passes : (command : Option Command) (given : Got) (line : List ℕ) → DecryptsKept command given → refuses command given ≡ Some (9, line) → ⊥
+  kept_passes (Some (Decrypt client input)) (whole files) line kept nine =
+      let none : refuses (Some (Decrypt client input)) (whole files) ≡ None = ap (option_map as_report) (decrypt_passes client input files kept) in cc
+  kept_passes _ _ line kept nine = absurd kept

@@ -13,9 +13,10 @@ use Rattle.rx_circuit.specs.declared.values.ValueLine.{ValueLine}
 use Rattle.rx_codec.specs.declared.client.Client.{Client}
 use Rattle.rx_codec.specs.declared.cipher.Item.{Item}
 use Rattle.rx_client.specs.Encrypt.{blocks_in, line_digits, items_from, encrypted_values}
-use Rattle.rx_client.specs.Decrypt.{number_of, named_line, kept_lines}
+use Rattle.rx_client.specs.Decrypt.{named_line, kept_lines}
 use Rattle.rx_server.specs.Inputs.{items_of, digits_named, digits_found}
-use Rattle.rx_server.specs.Outputs.{output_item, values_of}
+use Rattle.rx_net.specs.Numbers.{number_of, values_of}
+use Rattle.rx_server.specs.Outputs.{output_item}
 use Rattle.rx_tool.specs.WholeWay.{Batch, batch_ciphers, batch_lines, batch_digits, digits_over, plain_digits, plain_lines}
 
 -- the digits of the lines of a name

@@ -10,7 +10,7 @@ use Rattle.rx_params.specs.declared.params.Params.{Params}
 use Rattle.rx_params.specs.Text.{fields_of}
 use Rattle.rx_codec.specs.declared.fault.CodecFault.{CodecFault}
 use Rattle.rx_codec.specs.declared.cipher.Cipher.{Cipher}
-use Rattle.rx_codec.specs.CipherFile.{CipherFile, cipher_from}
+use Rattle.rx_codec.specs.CipherFile.{CipherRead, cipher_from}
 use Rattle.rx_crew.specs.Kernel.{basis_params}
 use Rattle.rx_server.specs.Laws.{AreCiphersOf}
 use Rattle.rx_report.specs.declared.difference.Difference.{Difference}
@@ -19,7 +19,8 @@ use Rattle.rx_tool.specs.declared.outcome.Stop.{Stop}
 use Rattle.rx_tool.specs.declared.outcome.Stop.TheVariants.{Refused, Read, Memory}
 use Rattle.rx_tool.specs.Answers.{StopsFor}
 use Rattle.rx_tool.specs.Words.{texts}
-use Rattle.rx_tool.specs.Run.{AreCiphers, AreCipherValues, AreOfSet, or_else, cipher_before, ciphers_of, malformed_input, one_malformed, input_difference}
+use Rattle.rx_tool.specs.Refusals.{or_else, set_difference}
+use Rattle.rx_tool.specs.Run.{AreCiphers, AreCipherValues, AreOfSet, cipher_before, ciphers_of, malformed_input, one_malformed}
 
 -- the first files were read, and gave these ciphers
 pub record ReadSoFar (names files : List (List ℕ)) (place : ℕ) (ciphers : List Cipher) : Type 0 where
@@ -32,7 +33,7 @@ next xs i x p e = rw add-one (drop-cons xs i x p ∙ ap (λ y. y ∷ drop (suc i
 
 pub one_read : (names files : List (List ℕ)) (place : ℕ) (ciphers : List Cipher) (name file : List ℕ) (c : Cipher) → ReadSoFar names files place ciphers
     → place < length names → name ≡ get_or names place name → place < length files → file ≡ get_or files place file
-    → cipher_from file ≡ Ok c → CipherFile file c → ReadSoFar names files (place + 1) (ciphers ++ c ∷ [])
+    → cipher_from file ≡ Ok c → CipherRead file c → ReadSoFar names files (place + 1) (ciphers ++ c ∷ [])
 one_read names files place ciphers name file c so p e q f is spells =
     let ns : drop place names ≡ name ∷ drop (place + 1) names = next names place name p e in
     let fs : drop place files ≡ file ∷ drop (place + 1) files = next files place file q f in
@@ -77,7 +78,7 @@ all_read names files place ciphers so p same =
 -- ---- the ciphers that were compared with a set
 
 pub record SameSoFar (p : Params) (names : List (List ℕ)) (ciphers : List Cipher) (place : ℕ) : Type 0 where
-  pub refusal : input_difference p (drop place names) (drop place ciphers) ≡ input_difference p names ciphers
+  pub refusal : set_difference p (drop place names) (drop place ciphers) ≡ set_difference p names ciphers
   pub same : AreOfSet p (drop place ciphers) → AreOfSet p ciphers
 
 -- lists without a difference
@@ -101,21 +102,21 @@ pub one_same : (p : Params) (names : List (List ℕ)) (ciphers : List Cipher) (p
 one_same p names ciphers place c found so l m f is none =
     let ns : drop place names ≡ get_or names place [] ∷ drop (place + 1) names = rw add-one (drop-cons names place [] l) in
     let cs : drop place ciphers ≡ c ∷ drop (place + 1) ciphers = next ciphers place c m f in
-    let later : Option Report = input_difference p (drop (place + 1) names) (drop (place + 1) ciphers) in
+    let later : Option Report = set_difference p (drop (place + 1) names) (drop (place + 1) ciphers) in
     record {
       refusal = sym (ap (λ d. or_else (option_map (mismatch (get_or names place [])) d) later) (sym is ∙ none))
-          ∙ sym (ap (λ xs. input_difference p xs (c ∷ drop (place + 1) ciphers)) ns) ∙ sym (ap (input_difference p (drop place names)) cs) ∙ so.refusal;
+          ∙ sym (ap (λ xs. set_difference p xs (c ∷ drop (place + 1) ciphers)) ns) ∙ sym (ap (set_difference p (drop place names)) cs) ∙ so.refusal;
       same = λ h. so.same (subst (AreOfSet p) (sym cs) (same_set p c.params (sym is ∙ none), h));
     }
 
 pub differs_at : (p : Params) (names : List (List ℕ)) (ciphers : List Cipher) (place : ℕ) (name : List ℕ) (c : Cipher) (d : Difference) → SameSoFar p names ciphers place
     → place < length names → name ≡ get_or names place name → place < length ciphers → c ≡ get_or ciphers place c
-    → difference_of p c.params ≡ Some d → input_difference p names ciphers ≡ Some (mismatch name d)
+    → difference_of p c.params ≡ Some d → set_difference p names ciphers ≡ Some (mismatch name d)
 differs_at p names ciphers place name c d so l e m f some =
     let ns : drop place names ≡ name ∷ drop (place + 1) names = next names place name l e in
     let cs : drop place ciphers ≡ c ∷ drop (place + 1) ciphers = next ciphers place c m f in
-    sym so.refusal ∙ ap (input_difference p (drop place names)) cs ∙ ap (λ xs. input_difference p xs (c ∷ drop (place + 1) ciphers)) ns
-    ∙ ap (λ d. or_else (option_map (mismatch name) d) (input_difference p (drop (place + 1) names) (drop (place + 1) ciphers))) some
+    sym so.refusal ∙ ap (set_difference p (drop place names)) cs ∙ ap (λ xs. set_difference p xs (c ∷ drop (place + 1) ciphers)) ns
+    ∙ ap (λ d. or_else (option_map (mismatch name) d) (set_difference p (drop (place + 1) names) (drop (place + 1) ciphers))) some
 
 pub values_fit : (files : List (List ℕ)) (ciphers : List Cipher) → AreCiphers files ciphers → AreCipherValues ciphers
 values_fit [] [] are = tt

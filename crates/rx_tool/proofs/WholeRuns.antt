@@ -10,6 +10,7 @@ use Rattle.rx_boot.specs.BootKeys.{boot_size}
 use Rattle.rx_boot.specs.ServerKeys.{ServerWords, server_key}
 use Rattle.rx_boot.specs.Laws.{ServerKeyLaws}
 use Rattle.rx_block.specs.declared.block.Block.{Block}
+use Rattle.rx_crew.specs.Evaluation.{evaluated}
 use Rattle.rx_crew.specs.Laws.{KeepingLaws}
 use Rattle.rx_codec.specs.declared.client.Client.{Client}
 use Rattle.rx_codec.specs.declared.cipher.Cipher.{Cipher}
@@ -18,10 +19,10 @@ use Rattle.rx_client.specs.Encrypt.{line_digits}
 use Rattle.rx_client.specs.Decrypt.{kept_lines, first_damage}
 use Rattle.rx_client.specs.Laws.{ReadingLaws, EncryptingLaws}
 use Rattle.rx_client.proofs.Encrypted.{values_fit, values_params}
-use Rattle.rx_server.specs.Inputs.{items_of, first_fault, blocks_found}
+use Rattle.rx_server.specs.Inputs.{items_of, first_fault}
 use Rattle.rx_server.specs.Laws.{AreCiphersOf, AreCellBlocks, ServerLaws}
 use Rattle.rx_tool.specs.Encrypt.{encryption}
-use Rattle.rx_tool.specs.Run.{run_cells, KeepsItems}
+use Rattle.rx_tool.specs.Run.{input_blocks, KeepsItems}
 use Rattle.rx_tool.specs.WholeWay.{Batch, batch_ciphers, batch_lines, batch_digits, run_over, digits_over, decrypted_lines, plain_lines, IsBatch, GoTogether, WholeWayLaws}
 use Rattle.rx_tool.proofs.EvaluatedBlocks.{are_inputs}
 use Rattle.rx_tool.proofs.NetRuns.{cells_keep_run, keeps_items}
@@ -40,7 +41,7 @@ run_keeps : LawsBelow → (k : ServerWords) (net : Net) (ciphers : List Cipher) 
     Legal net → net.space ≡ k.params.message_bits → AreCiphersOf k.params ciphers → first_fault net.inputs (items_of ciphers) ≡ None →
     KeepsItems k net ciphers
 run_keeps laws k net ciphers accepted size legal space are none =
-    let found : List Block = blocks_found net.inputs (items_of ciphers) in
+    let found : List Block = input_blocks net ciphers in
     let fit : AreCellBlocks k.params net (input_cells net.space net.inputs) found = laws.server.inputs k.params net ciphers space are none in
     keeps_items k net ciphers laws.server
     (cells_keep_run k net ciphers laws.server legal fit
@@ -101,7 +102,7 @@ way_plain : LawsBelow → (c : Client) (server_mask : List ℕ) (net : Net) (bat
     decrypted_lines c server_mask net batches ≡ plain_lines c.params.message_bits net (batch_lines batches)
 way_plain laws c server_mask net batches together =
     way_lines laws c server_mask net batches together
-    ∙ run_plain c net (run_cells (server_key c.params c.seed server_mask) net (batch_ciphers c batches)) batches
+    ∙ run_plain c net (evaluated (server_key c.params c.seed server_mask) net (input_blocks net (batch_ciphers c batches))) batches
 
 pub whole_way : LawsBelow → WholeWayLaws
 whole_way laws =

@@ -6,7 +6,7 @@ use Rattle.rx_codec.specs.declared.client.Client.{Client}
 use Rattle.rx_codec.specs.declared.cipher.Cipher.{Cipher}
 use Rattle.rx_codec.specs.declared.fault.CodecFault.{CodecFault}
 use Rattle.rx_codec.specs.ClientFile.{ClientFile, client_from}
-use Rattle.rx_codec.specs.CipherFile.{CipherFile, cipher_from}
+use Rattle.rx_codec.specs.CipherFile.{CipherRead, cipher_from}
 use Rattle.rx_codec.specs.Kept.{AreItemsKept}
 use Rattle.rx_client.specs.Decrypt.{item_lines, kept_lines, first_damage}
 use Rattle.rx_report.specs.declared.difference.Difference.{Difference}
@@ -47,12 +47,12 @@ PrintsKept c x lines =
 -- the two files are a client's and a ciphertext of its set, whose blocks keep some digits under the client's key
 abbrev pub AreKeptFiles : List (List ℕ) → Type 0
 AreKeptFiles (client_file ∷ cipher_file ∷ []) =
-    (c : Client) × (x : Cipher) × (digits : List (List ℕ)) × ClientFile client_file c × CipherFile cipher_file x
+    (c : Client) × (x : Cipher) × (digits : List (List ℕ)) × ClientFile client_file c × CipherRead cipher_file x
     × (x.params ≡ c.params) × AreItemsKept c.params (large_key c.params c.seed) x.items digits
 AreKeptFiles _ = ⊥
 
 abbrev pub DecryptDoes : List (List ℕ) → List (List ℕ × List ℕ) → List ℕ → Type 0
 DecryptDoes (client_file ∷ cipher_file ∷ []) writes lines =
-    (c : Client) × (x : Cipher) × ClientFile client_file c × CipherFile cipher_file x × (x.params ≡ c.params)
+    (c : Client) × (x : Cipher) × ClientFile client_file c × CipherRead cipher_file x × (x.params ≡ c.params)
     × (writes ≡ []) × (lines ≡ item_lines c.params (large_key c.params c.seed) x.items) × PrintsKept c x lines
 DecryptDoes _ writes lines = ⊥

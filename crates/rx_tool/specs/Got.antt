@@ -1,5 +1,5 @@
 -- What the reads of a command give, where the store tells its files.
-use Rattle.std.specs.Prelude.{◌≡◌, ℕ, List, [], ◌∷◌, ◌^◌, length, Option, Some, None, if◌then◌else◌, nat_le, Result, Ok, Err, IfSome, IsSomeAnd, ◌⊎◌, Vec}
+use Rattle.std.specs.Prelude.{◌≡◌, ◌<◌, ◌≤◌, ℕ, List, [], ◌∷◌, ◌^◌, length, Option, Some, None, if◌then◌else◌, nat_le, Result, Ok, Err, IfSome, IsSomeAnd, All, Contains, ◌⊎◌, Vec}
 use Rattle.std.specs.Option.{option_map}
 use Rattle.std.specs.declared.alloc.Global.{Global}
 use Rattle.rx_store.specs.Files.{Files, file_at}
@@ -35,10 +35,26 @@ abbrev pub got_all : List (List ℕ) → Files → Got
 got_all [] files = whole []
 got_all (name ∷ names) files = got_one name (file_at files name) (got_all names files)
 
--- what the command's reads give; words that are no command read nothing
+-- the names that are read; words that are no command read nothing
+abbrev pub reads : Option Command → List (List ℕ)
+reads None = []
+reads (Some command) = reads_of command
+
+-- what the command's reads give, over these files
 abbrev pub got : Option Command → Files → Got
-got None files = whole []
-got (Some command) files = got_all (reads_of command) files
+got command files = got_all (reads command) files
+
+-- What reads of these names may give over any store: as many files, each within the limit; a longer one, by its
+-- name and length; or a missing one.
+abbrev pub MayGive : List (List ℕ) → Got → Type 0
+MayGive names (whole files) = (length files ≡ length names) × All (λ file. length file ≤ file_limit) files
+MayGive names (long name size) = Contains names name × (file_limit < size)
+MayGive names missing = Unit {0}
+
+-- the reads of a command gave this: they may give it, and do where the store tells its files
+pub record Given (command : Option Command) (files : Option Files) (given : Got) : Type 0 where
+  pub may : MayGive (reads command) given
+  pub told : IfSome files (λ f. got command f ≡ given)
 
 -- the status and the line of a refusal
 abbrev pub as_report : Report → ℕ × List ℕ
@@ -60,8 +76,10 @@ DoesAll None given writes lines = ⊥
 
 -- what the reading of some names answers
 abbrev pub ReadsAll : Option Files → List (List ℕ) → ℕ → ℕ → Result (Vec (List ℕ) Global) Stop → Type 0
-ReadsAll files names before now (Ok all) = IfSome files (λ f. got_all names f ≡ whole all.items)
+ReadsAll files names before now (Ok all) =
+    MayGive names (whole all.items) × IfSome files (λ f. got_all names f ≡ whole all.items)
 ReadsAll files names before now (Err (Refused refusal)) =
-    (name : List ℕ) × (size : ℕ) × (refusal ≡ too_long name size) × IfSome files (λ f. got_all names f ≡ long name size)
+    (name : List ℕ) × (size : ℕ) × (refusal ≡ too_long name size) × MayGive names (long name size)
+    × IfSome files (λ f. got_all names f ≡ long name size)
 ReadsAll files names before now (Err Read) = Rose before now ⊎ IsSomeAnd files (λ f. got_all names f ≡ missing)
 ReadsAll files names before now (Err Memory) = Unit {0}

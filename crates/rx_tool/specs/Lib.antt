@@ -4,13 +4,16 @@ pub mod Check
 pub mod MakeClient
 pub mod Keygen
 pub mod Encrypt
+pub mod Refusals
 pub mod Run
 pub mod Decrypt
 pub mod Commands
 pub mod Answers
+pub mod World
 pub mod Got
 pub mod Left
 pub mod Ran
 pub mod Ends
 pub mod Told
+pub mod Outcome
 pub mod WholeWay

@@ -16,9 +16,9 @@ use Rattle.rx_codec.specs.declared.client.Client.{Client}
 use Rattle.rx_codec.specs.declared.cipher.Cipher.{Cipher}
 use Rattle.rx_codec.specs.Kept.{AreItemsKept}
 use Rattle.rx_client.specs.Encrypt.{line_digits, first_width}
-use Rattle.rx_client.specs.Decrypt.{number_of, named_line, item_lines, kept_lines, first_damage}
+use Rattle.rx_client.specs.Decrypt.{named_line, item_lines, kept_lines, first_damage}
 use Rattle.rx_server.specs.Inputs.{items_of, first_fault, digits_found}
-use Rattle.rx_server.specs.Outputs.{values_of}
+use Rattle.rx_net.specs.Numbers.{number_of, values_of}
 use Rattle.rx_tool.specs.Encrypt.{encryption}
 use Rattle.rx_tool.specs.Run.{run_cipher, output_digits}
 

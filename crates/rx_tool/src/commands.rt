@@ -4,8 +4,11 @@
 mod check;
 mod client;
 mod decrypt;
+mod differences;
 mod encrypt;
+mod evaluation;
 mod keygen;
+mod limits;
 mod run;
 mod run_checks;
 mod run_inputs;

@@ -1,8 +1,8 @@
 //! What a command made: the files to write, in order, and the lines to print; or why it stopped before.
-ghost use Rattle.std.specs.Prelude.{◌≡◌, string_bytes};
+ghost use Rattle.std.specs.Prelude.{◌≡◌, ◌∷◌, ◌++◌, [], OnOk, string_bytes};
 
 use rx_report::Refusal;
-use std::alloc::{AllocError, AllocFailed};
+use std::alloc::{AllocError, AllocFailed, Global};
 use std::marker::Model;
 
 /// A file to be written.
@@ -50,6 +50,30 @@ pub struct Done {
     pub writes: Vec<Output>,
     /// What is printed after the writes, each line with its line feed.
     pub lines: String,
+}
+
+impl Done {
+    /// Nothing to write and nothing to print.
+    pub fn new(alloc: Global) -> Done
+        ensures writes { result.writes.items ≡ [] }
+        ensures lines { string_bytes result.lines ≡ [] }
+    {
+        Done {
+            writes: Vec::new(alloc),
+            lines: String::new(alloc),
+        }
+    }
+
+    /// Adds a file to be written after those that are there.
+    pub fn add_file(&mut self, alloc: Global, name: &str, bytes: Vec<u8>) -> Result<(), AllocError>
+        ensures added { OnOk result
+            (self.new.writes.items ≡ self.old.writes.items ++ (name.now, bytes.items) ∷ []) }
+        ensures lines { self.new.lines ≡ self.old.lines }
+    {
+        let name = String::from_str(alloc, name)?;
+        self.writes.push(Output::new(name, bytes))?;
+        Ok(())
+    }
 }
 
 /// Why a command did not come to its writes.

@@ -1,16 +1,12 @@
 //! The top call.
-ghost use Rattle.std.specs.Prelude.{◌≡◌, ◌⊎◌, length, Some, None, IsSomeAnd};
-ghost use Rattle.rx_store.specs.Counts.{Rose};
-ghost use Rattle.rx_report.specs.declared.refusal.Kind.{Kind};
-ghost use Rattle.rx_report.specs.Reports.{status_of, usage_line};
-ghost use Rattle.rx_tool.specs.Got.{got, missing};
-ghost use Rattle.rx_tool.specs.Left.{Prints};
-ghost use Rattle.rx_tool.specs.Told.{IsRefusal, RefusedBy, Refuses, DoneBy, ShortOfMemory, FailedAt, LeftAlone, Faultless, Complete, Absent, NeverDamaged};
+ghost use Rattle.std.specs.Prelude.{◌≡◌, length, Some};
 ghost use Rattle.rx_tool.specs.Words.{texts};
 ghost use Rattle.rx_tool.specs.Answers.{Answers};
 ghost use Rattle.rx_tool.specs.Commands.{command_of, reads_of};
-ghost use Rattle.rx_tool.specs.Ran.{Ran, world};
+ghost use Rattle.rx_tool.specs.World.{world};
 ghost use Rattle.rx_tool.specs.Ends.{ReportGives, GivesUp, Performs};
+ghost use Rattle.rx_tool.specs.Ran.{Ran};
+ghost use Rattle.rx_tool.specs.Outcome.{IsOutcome};
 
 use crate::bytes::Bytes;
 use crate::command::{Command, parse};
@@ -26,10 +22,10 @@ use rx_store::{Sink, Store, WriteError};
 use std::alloc::Global;
 use std::thread::Threads;
 
-/// Runs the command that the words after the program's name are. The status is 0 where it was done, 2 where the words
-/// are no command, 3 where a read failed, 4 where a write or the printing failed, 11 for want of memory, and else that
-/// of the refusal, 5 to 10. After want of memory nothing was printed, and each file is whole or as it was. Source:
-/// `docs/FORMATS.md`, Reports.
+/// Runs the command that the words after the program's name are. The status is 0 where it was done, 2 where
+/// the words are no command, 3 where a read failed, 4 where a write or the printing failed, 11 for want of
+/// memory, and else that of the refusal, 5 to 10. What each says of the files and of what was printed is
+/// `IsOutcome`, a clause a line. Source: `docs/FORMATS.md`, Reports.
 pub fn tool<R: Threads + Sync, S: Store, K: Sink, G: Gate + Sync>(
     rt: &R,
     alloc: Global,
@@ -38,40 +34,12 @@ pub fn tool<R: Threads + Sync, S: Store, K: Sink, G: Gate + Sync>(
     sink: &mut K,
     gate: &G,
 ) -> u8
-    // Words that are no command, and no others, are a usage error.
-    ensures usage { result ≡ 2 → command_of (texts words.now) ≡ None }
-    ensures no_command { command_of (texts words.now) ≡ None → (result ≡ 2) ⊎ (result ≡ 11) }
-    ensures usage_reported { result ≡ 2 → Prints usage_line (K.written sink.old) (K.faults sink.old) (K.written sink.new) (K.faults sink.new) }
-
-    // Faults have their causes.
-    ensures read_cause { result ≡ 3 → Rose (S.read_faults store.old) (S.read_faults store.new)
-        ⊎ IsSomeAnd (S.files store.old) (λ files. got (command_of (texts words.now)) files ≡ missing) }
-    ensures write_cause { result ≡ 4 → Rose (S.write_faults store.old) (S.write_faults store.new)
-        ⊎ Rose (K.faults sink.old) (K.faults sink.new) }
-
-    // Each refusal comes exactly where it is said, with its line, and nothing was written.
-    ensures refused { IsRefusal result → RefusedBy (command_of (texts words.now)) (S.files store.old) result
-        (K.written sink.old) (K.faults sink.old) (K.written sink.new) (K.faults sink.new) }
-    ensures refuses { Refuses (command_of (texts words.now)) (S.files store.old) result (S.read_faults store.old) (S.read_faults store.new) }
-    ensures known { IsRefusal result → (result ≡ 2) ⊎ ((kind : Kind) × (result ≡ status_of kind)) }
-    ensures unwritten { IsRefusal result ⊎ (result ≡ 3) → S.files store.new ≡ S.files store.old }
-    ensures silent { (result ≡ 3) ⊎ (result ≡ 11) → K.written sink.new ≡ K.written sink.old }
-
-    // A ciphertext file whose blocks keep numbers under the client's key is never damaged.
-    ensures undamaged { NeverDamaged (command_of (texts words.now)) (S.files store.old) result }
-
-    // What is done, and what stands where it was not.
-    ensures done { result ≡ 0 → DoneBy (command_of (texts words.now)) (S.files store.old) (S.files store.new) (K.written sink.old) (K.written sink.new) }
-    ensures stopped { result ≡ 4 → FailedAt (command_of (texts words.now)) (S.files store.old) (S.files store.new) (K.written sink.old) (K.written sink.new) }
-    ensures ran_out { result ≡ 11 → ShortOfMemory (command_of (texts words.now)) (S.files store.old) (S.files store.new) (K.written sink.old) (K.written sink.new) }
-    ensures left_alone { result ≡ 11 → LeftAlone (command_of (texts words.now)) (S.files store.old) (S.files store.new) (K.written sink.old) (K.written sink.new) }
-
-    // A missing file is a read fault.
-    ensures absent { Absent (command_of (texts words.now)) (S.files store.old) result }
-
-    // Without a refusal, a missing file or a fault it is done, or memory was wanted.
-    ensures complete { Faultless (S.read_faults store.old) (S.read_faults store.new) (S.write_faults store.old) (S.write_faults store.new) (K.faults sink.old) (K.faults sink.new)
-        → Complete (command_of (texts words.now)) (S.files store.old) result }
+    ensures { IsOutcome (command_of (texts words.now))
+        (world (S.files store.old) (S.read_faults store.old) (S.write_faults store.old)
+        (K.written sink.old) (K.faults sink.old))
+        (world (S.files store.new) (S.read_faults store.new) (S.write_faults store.new)
+        (K.written sink.new) (K.faults sink.new))
+        result }
 {
     file_laws();
     reading_laws();
@@ -88,8 +56,11 @@ fn run_words<R: Threads + Sync, S: Store, K: Sink, G: Gate + Sync>(
     gate: &G,
 ) -> u8
     ensures { Ran (command_of (texts words.now))
-        (world (S.files store.old) (S.read_faults store.old) (S.write_faults store.old) (K.written sink.old) (K.faults sink.old))
-        (world (S.files store.new) (S.read_faults store.new) (S.write_faults store.new) (K.written sink.new) (K.faults sink.new)) result }
+        (world (S.files store.old) (S.read_faults store.old) (S.write_faults store.old)
+        (K.written sink.old) (K.faults sink.old))
+        (world (S.files store.new) (S.read_faults store.new) (S.write_faults store.new)
+        (K.written sink.new) (K.faults sink.new))
+        result }
 {
     match parse(words) {
         Some(command) => run(rt, alloc, &command, store, sink, gate),
@@ -106,8 +77,11 @@ fn run<R: Threads + Sync, S: Store, K: Sink, G: Gate + Sync>(
     gate: &G,
 ) -> u8
     ensures { Ran (Some command.now)
-        (world (S.files store.old) (S.read_faults store.old) (S.write_faults store.old) (K.written sink.old) (K.faults sink.old))
-        (world (S.files store.new) (S.read_faults store.new) (S.write_faults store.new) (K.written sink.new) (K.faults sink.new)) result }
+        (world (S.files store.old) (S.read_faults store.old) (S.write_faults store.old)
+        (K.written sink.old) (K.faults sink.old))
+        (world (S.files store.new) (S.read_faults store.new) (S.write_faults store.new)
+        (K.written sink.new) (K.faults sink.new))
+        result }
 {
     let Ok(names) = command.reads(alloc) else {
         return 11;
@@ -152,7 +126,8 @@ fn answer<R: Threads + Sync, G: Gate + Sync>(
 }
 
 fn give_up<K: Sink>(stop: &Stop, sink: &mut K) -> u8
-    ensures { GivesUp stop.now (K.written sink.old) (K.faults sink.old) (K.written sink.new) (K.faults sink.new) result }
+    ensures { GivesUp stop.now (K.written sink.old) (K.faults sink.old)
+        (K.written sink.new) (K.faults sink.new) result }
 {
     match stop {
         Stop::Refused(refusal) => report(refusal.kind().status(), refusal.line(), sink),
@@ -162,7 +137,8 @@ fn give_up<K: Sink>(stop: &Stop, sink: &mut K) -> u8
 }
 
 fn report<K: Sink>(status: u8, line: &[u8], sink: &mut K) -> u8
-    ensures { ReportGives status line.now (K.written sink.old) (K.faults sink.old) (K.written sink.new) (K.faults sink.new) result }
+    ensures { ReportGives status line.now (K.written sink.old) (K.faults sink.old)
+        (K.written sink.new) (K.faults sink.new) result }
 {
     match sink.put(line) {
         Ok(()) => status,
@@ -173,8 +149,12 @@ fn report<K: Sink>(status: u8, line: &[u8], sink: &mut K) -> u8
 
 /// Writes the files, and then prints the lines.
 fn perform<S: Store, K: Sink>(writes: &[Output], lines: &[u8], store: &mut S, sink: &mut K) -> u8
-    ensures { Performs writes.now lines.now (S.files store.old) (S.files store.new) (S.write_faults store.old) (S.write_faults store.new)
-        (K.written sink.old) (K.written sink.new) (K.faults sink.old) (K.faults sink.new) result }
+    ensures { Performs writes.now lines.now
+        (world (S.files store.old) (S.read_faults store.old) (S.write_faults store.old)
+        (K.written sink.old) (K.faults sink.old))
+        (world (S.files store.new) (S.read_faults store.new) (S.write_faults store.new)
+        (K.written sink.new) (K.faults sink.new))
+        result }
 {
     match write_all(writes, store) {
         Ok(()) => match sink.put(lines) {

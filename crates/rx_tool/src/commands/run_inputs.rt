@@ -1,6 +1,6 @@
 //! The ciphertext files of a run.
 ghost use Rattle.std.specs.Prelude.{◌≡◌, Ok, None, length};
-ghost use Rattle.rx_codec.specs.CipherFile.{CipherFile, cipher_from};
+ghost use Rattle.rx_codec.specs.CipherFile.{CipherRead, cipher_from};
 ghost use Rattle.rx_tool.specs.Answers.{Yields};
 ghost use Rattle.rx_tool.specs.Run.{AreCiphers, ciphers_of, malformed_input, one_malformed};
 ghost use Rattle.rx_tool.specs.Words.{texts};
@@ -32,7 +32,7 @@ pub fn read_ciphers(alloc: Global, names: &[String], files: &[Bytes]) -> Result<
 /// The cipher of a file of this name.
 fn read_one(alloc: Global, name: &str, file: &Bytes) -> Result<Cipher, Stop>
     ensures { Yields (one_malformed name.now (cipher_from file.now) None)
-        (λ cipher. (cipher_from file.now ≡ Ok cipher) × CipherFile file.now cipher) result }
+        (λ cipher. (cipher_from file.now ≡ Ok cipher) × CipherRead file.now cipher) result }
 {
     match decode_cipher(alloc, file.as_slice()) {
         Ok(cipher) => Ok(cipher),

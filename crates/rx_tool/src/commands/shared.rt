@@ -8,7 +8,7 @@ ghost use Rattle.rx_tool.specs.declared.outcome.Stop.TheVariants.{Refused, Memor
 
 use crate::bytes::Bytes;
 use crate::command::Source;
-use crate::outcome::{Done, Output, Stop};
+use crate::outcome::{Done, Stop};
 use crate::words::Word;
 use rx_params::{Bounds, Params, check, read_params};
 use rx_report::{Refusal, malformed_text, not_accepted};
@@ -61,10 +61,7 @@ pub fn one_file(alloc: Global, name: &Word<'_>, bytes: Vec<u8>) -> Result<Done, 
     ensures writes { IfOk result (λ done. done.writes.items ≡ (name.now, bytes.items) ∷ []) }
     ensures lines { IfOk result (λ done. string_bytes done.lines ≡ []) }
 {
-    let mut writes = Vec::new(alloc);
-    writes.push(Output::new(String::from_str(alloc, name.as_str())?, bytes))?;
-    Ok(Done {
-        writes,
-        lines: String::new(alloc),
-    })
+    let mut done = Done::new(alloc);
+    done.add_file(alloc, name.as_str(), bytes)?;
+    Ok(done)
 }

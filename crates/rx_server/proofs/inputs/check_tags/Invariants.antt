@@ -1,6 +1,6 @@
 use Rattle.std.proofs.Common.{◌≡◌, drop}
 use Rattle.rx_server.specs.Inputs.{tags_fault}
-use Rattle.rx_server.proofs.inputs.tags_fault.Given as goal
+use Rattle.rx_server.proofs.inputs.check_tags.Given as goal
 
 -- no block so far passes the tags
 abbrev pub invariant-loop-block : goal.invariant-loop-block

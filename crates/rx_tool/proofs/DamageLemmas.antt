@@ -1,0 +1,191 @@
+-- Damage is told by `decrypt` alone: no other command has a refusal of that kind.
+use Rattle.std.proofs.Common.{◌≡◌, ◌≢◌, ℕ, List, [], ◌∷◌, refl, sym, ap, ◌∙◌, Some, None, Option, Result, Ok, Err, IfSome, Bool, true, false, arith, unwrap_or}
+use Rattle.std.specs.Prelude.{nat_le, ◌==◌, ◌&&◌, if◌then◌else◌}
+use Rattle.std.specs.Option.{option_map}
+use Rattle.rx_text.specs.declared.fault.LineFault.{LineFault}
+use Rattle.rx_params.specs.declared.params.Params.{Params}
+use Rattle.rx_params.specs.declared.bounds.Refused.{Refused}
+use Rattle.rx_params.specs.declared.bounds.Refused.TheVariants.{Limit as OutsideLimit, NarrowBox, Noise}
+use Rattle.rx_params.specs.Acceptance.{refusal_of}
+use Rattle.rx_params.specs.Text.{params_from}
+use Rattle.rx_circuit.specs.declared.values.ValueLine.{ValueLine}
+use Rattle.rx_circuit.specs.Values.{values_from}
+use Rattle.rx_client.specs.Encrypt.{first_width}
+use Rattle.rx_net.specs.declared.net.Net.{Net}
+use Rattle.rx_boot.specs.ServerKeys.{ServerWords}
+use Rattle.rx_codec.specs.declared.client.Client.{Client}
+use Rattle.rx_codec.specs.declared.cipher.Cipher.{Cipher}
+use Rattle.rx_codec.specs.declared.fault.CodecFault.{CodecFault}
+use Rattle.rx_codec.specs.declared.fault.CodecFault.TheVariants.{Magic, Short, Long, Field, Params as RefusedParams, Net as NotLegal, Memory}
+use Rattle.rx_codec.specs.ClientFile.{client_from}
+use Rattle.rx_codec.specs.ServerFile.{server_from}
+use Rattle.rx_codec.specs.NetFile.{net_from}
+use Rattle.rx_codec.specs.CipherFile.{cipher_from}
+use Rattle.rx_server.specs.declared.fault.InputFault.{InputFault}
+use Rattle.rx_server.specs.declared.fault.InputFault.TheVariants.{Missing, Twice, Form as WrongForm, Degree, Noise as TooNoisy}
+use Rattle.rx_server.specs.Inputs.{items_of, first_fault}
+use Rattle.rx_report.specs.declared.difference.Difference.{Difference}
+use Rattle.rx_report.specs.declared.refusal.Kind.{Kind}
+use Rattle.rx_report.specs.declared.refusal.Kind.TheVariants.{Malformed, NotAccepted, Mismatch, Inputs, Damaged, Limit}
+use Rattle.rx_report.specs.Reports.{Report, status_of, not_accepted, malformed_binary, mismatch, difference_of, wrong_input, wrong_width, too_long}
+use Rattle.rx_tool.specs.declared.command.Source.{Source}
+use Rattle.rx_tool.specs.declared.command.Source.TheVariants.{Named, File}
+use Rattle.rx_tool.specs.declared.command.Command.{Command}
+use Rattle.rx_tool.specs.declared.command.Command.TheVariants.{Check, MakeClient, Keygen, Encrypt, Run, Decrypt}
+use Rattle.rx_tool.specs.Sources.{set_refusal, read_refusal, source_refusal}
+use Rattle.rx_tool.specs.Keygen.{keygen_refused, keygen_refusal}
+use Rattle.rx_tool.specs.Encrypt.{encrypt_refused, encrypt_refusal}
+use Rattle.rx_tool.specs.Refusals.{or_else, space_difference, set_difference, workers_refusal, jobs_refusal, board_refusal, limits_refusal}
+use Rattle.rx_tool.specs.Run.{one_malformed, malformed_input, ciphers_of, inputs_refusal, values_refusal, run_refused, run_refusal}
+use Rattle.rx_tool.specs.Commands.{command_refusal}
+use Rattle.rx_tool.specs.Got.{Got, whole, long, missing, as_report, refuses}
+use Rattle.rx_tool.specs.Told.{IsDecrypt}
+
+-- if it refuses, it is not for damage
+abbrev NotDamage : Option Report → Type 0
+NotDamage refusal = IfSome refusal (λ report. report.0 ≢ Damaged)
+
+-- ---- the parts of refusals
+
+either : (first later : Option Report) → NotDamage first → NotDamage later → NotDamage (or_else first later)
+either (Some report) later p q = p
+either None later p q = q
+
+of_set : (refused : Option Refused) → NotDamage (option_map not_accepted refused)
+of_set None = tt
+of_set (Some (OutsideLimit field value)) = λ e. cc
+of_set (Some (NarrowBox n p)) = λ e. cc
+of_set (Some (Noise left right)) = λ e. cc
+
+of_binary : (name : List ℕ) (fault : CodecFault) → NotDamage (malformed_binary name fault)
+of_binary name Magic = λ e. cc
+of_binary name (Short need have) = λ e. cc
+of_binary name (Long extra) = λ e. cc
+of_binary name (Field at) = λ e. cc
+of_binary name (NotLegal fault) = λ e. cc
+of_binary name (RefusedParams refused) = of_set (Some refused)
+of_binary name Memory = tt
+
+of_input : (fault : Option InputFault) → NotDamage (option_map wrong_input fault)
+of_input None = tt
+of_input (Some (Missing name)) = λ e. cc
+of_input (Some (Twice name)) = λ e. cc
+of_input (Some (WrongForm name)) = λ e. cc
+of_input (Some (Degree name value limit)) = λ e. cc
+of_input (Some (TooNoisy name value limit)) = λ e. cc
+
+of_width : (line : Option ValueLine) → NotDamage (option_map (λ v. wrong_width v.name v.bits) line)
+of_width None = tt
+of_width (Some v) = λ e. cc
+
+-- a report of another kind where a test fails
+of_test : (passed : Bool) (report : Report) → report.0 ≢ Damaged → NotDamage (if passed then None else Some report)
+of_test true report other = tt
+of_test false report other = other
+
+of_difference : (name : List ℕ) (found : Option Difference) → NotDamage (option_map (mismatch name) found)
+of_difference name None = tt
+of_difference name (Some difference) = λ e. cc
+
+of_sets : (p : Params) (names : List (List ℕ)) (ciphers : List Cipher) → NotDamage (set_difference p names ciphers)
+of_sets p [] ciphers = tt
+of_sets p (name ∷ names) [] = tt
+of_sets p (name ∷ names) (c ∷ ciphers) =
+    either (option_map (mismatch name) (difference_of p c.params)) (set_difference p names ciphers)
+    (of_difference name (difference_of p c.params)) (of_sets p names ciphers)
+
+of_limits : (p : Params) (workers jobs : ℕ) → NotDamage (limits_refusal p workers jobs)
+of_limits p workers jobs =
+    either (workers_refusal workers) (or_else (jobs_refusal jobs) (board_refusal p jobs)) (of_test _ _ (λ e. cc))
+    (either (jobs_refusal jobs) (board_refusal p jobs) (of_test _ _ (λ e. cc)) (of_test _ _ (λ e. cc)))
+
+-- ---- the commands
+
+of_source : (source : Source) (files : List (List ℕ)) → NotDamage (source_refusal source files)
+of_source (Named set) files = of_set (refusal_of set)
+of_source (File name) [] = tt
+of_source (File name) (bytes ∷ []) = of_read (params_from bytes)
+  where
+    of_read : (read : Result Params LineFault) → NotDamage (read_refusal name read)
+    of_read (Err fault) = λ e. cc
+    of_read (Ok p) = of_set (refusal_of p)
+of_source (File name) (bytes ∷ more ∷ files) = tt
+
+of_keygen : (client : List ℕ) (files : List (List ℕ)) → NotDamage (keygen_refusal client files)
+of_keygen client [] = tt
+of_keygen client (file ∷ []) = of_read (client_from file)
+  where
+    of_read : (read : Result Client CodecFault) → NotDamage (keygen_refused client read)
+    of_read (Err fault) = of_binary client fault
+    of_read (Ok c) = tt
+of_keygen client (file ∷ more ∷ files) = tt
+
+of_encrypt : (client values : List ℕ) (files : List (List ℕ)) → NotDamage (encrypt_refusal client values files)
+of_encrypt client values [] = tt
+of_encrypt client values (file ∷ []) = tt
+of_encrypt client values (first ∷ second ∷ []) = of_read (client_from first) (values_from second)
+  where
+    of_read : (read : Result Client CodecFault) (lines : Result (List ValueLine) LineFault) → NotDamage (encrypt_refused client values read lines)
+    of_read (Err fault) lines = of_binary client fault
+    of_read (Ok c) (Err fault) = λ e. cc
+    of_read (Ok c) (Ok lines) = of_width (first_width c.params.message_bits lines)
+of_encrypt client values (first ∷ second ∷ more ∷ files) = tt
+
+of_inputs : (names files : List (List ℕ)) → NotDamage (malformed_input names files)
+of_inputs [] files = tt
+of_inputs (name ∷ names) [] = tt
+of_inputs (name ∷ names) (file ∷ files) = of_one (cipher_from file) (of_inputs names files)
+  where
+    of_one : (read : Result Cipher CodecFault) → NotDamage (malformed_input names files) → NotDamage (one_malformed name read (malformed_input names files))
+    of_one (Err fault) rest = of_binary name fault
+    of_one (Ok c) rest = rest
+
+of_values : (p : Params) (net_name : List ℕ) (net : Net) (workers : ℕ) (names : List (List ℕ)) (ciphers : List Cipher) → NotDamage (values_refusal p net_name net workers names ciphers)
+of_values p net_name net workers names ciphers =
+    either (space_difference net_name p net.space) _ (of_test _ _ (λ e. cc))
+    (either (set_difference p names ciphers) _ (of_sets p names ciphers)
+    (either (inputs_refusal net.inputs ciphers) _ (of_input (first_fault net.inputs (items_of ciphers)))
+    (of_limits p workers _)))
+
+of_run : (server net : List ℕ) (workers : ℕ) (names files : List (List ℕ)) → NotDamage (run_refusal server net workers names files)
+of_run server net workers names [] = tt
+of_run server net workers names (file ∷ []) = tt
+of_run server net workers names (first ∷ second ∷ files) = of_read (server_from first) (net_from second)
+  where
+    of_read : (key : Result ServerWords CodecFault) (read : Result Net CodecFault) → NotDamage (run_refused server net workers names key read files)
+    of_read (Err fault) read = of_binary server fault
+    of_read (Ok k) (Err fault) = of_binary net fault
+    of_read (Ok k) (Ok n) =
+        either (malformed_input names files) _ (of_inputs names files) (of_values k.params net n workers names (ciphers_of files))
+
+-- ---- the status of damage
+
+of_kind : (kind : Kind) → status_of kind ≡ 9 → kind ≡ Damaged
+of_kind Malformed nine = absurd (omega arith)
+of_kind NotAccepted nine = absurd (omega arith)
+of_kind Mismatch nine = absurd (omega arith)
+of_kind Inputs nine = absurd (omega arith)
+of_kind Damaged nine = refl
+of_kind Limit nine = absurd (omega arith)
+
+same_status : (a b : ℕ) (l m : List ℕ) → ◌≡◌ {A = Option (ℕ × List ℕ)} (Some (a, l)) (Some (b, m)) → a ≡ b
+same_status a b l m e = ap (λ o. (unwrap_or {T = ℕ × List ℕ} o (a, l)).0) e
+
+other_status : (refusal : Option Report) (line : List ℕ) → NotDamage refusal → option_map as_report refusal ≡ Some (9, line) → ⊥
+other_status None line other e = absurd (cc)
+other_status (Some (kind, words)) line other e = other (of_kind kind (same_status _ _ _ _ e))
+
+-- a command whose refusal has the status of damage decrypts
+of_files : (command : Command) (files : List (List ℕ)) (line : List ℕ) → option_map as_report (command_refusal command files) ≡ Some (9, line) → IsDecrypt (Some command)
+of_files (Check source) files line e = absurd (other_status _ line (of_source source files) e)
+of_files (MakeClient source seed client) files line e = absurd (other_status _ line (of_source source files) e)
+of_files (Keygen client mask_seed server) files line e = absurd (other_status _ line (of_keygen client files) e)
+of_files (Encrypt client mask_seed noise_seed values out) files line e = absurd (other_status _ line (of_encrypt client values files) e)
+of_files (Run server net workers out inputs) files line e = absurd (other_status _ line (of_run server net workers inputs files) e)
+of_files (Decrypt client input) files line e = tt
+
+pub of_decrypt : (command : Option Command) (given : Got) (line : List ℕ) → refuses command given ≡ Some (9, line) → IsDecrypt command
+of_decrypt None given line e = absurd (omega (arith, same_status _ _ _ _ e))
+of_decrypt (Some command) (whole files) line e = of_files command files line e
+of_decrypt (Some command) (long name size) line e = absurd (omega (arith, same_status _ _ _ _ e))
+of_decrypt (Some command) missing line e = absurd (cc)
