@@ -1,5 +1,5 @@
 -- The encryption of some lines: it has a spelling as a file, and each of its blocks keeps its digit.
-use Rattle.std.proofs.Common.{◌≡◌, ◌⊎◌, inl, inr, ℕ, zero, suc, ℤ, pos, get_or, ◌+◌, ◌-◌, ◌*◌, ◌/◌, ◌%◌, ◌^◌, ◌<◌, ◌≤◌, refl, sym, ◌∙◌, ap, append_assoc, arith, subst, Bool, true, false, ◌||◌, IsTrue, List, [], ◌∷◌, ◌++◌, map, length, Option, None, Some, if◌then◌else◌}
+use Rattle.std.proofs.Common.{◌≡◌, ◌⊎◌, inl, inr, ℕ, zero, suc, get_or, ◌+◌, ◌-◌, ◌*◌, ◌/◌, ◌%◌, ◌^◌, ◌<◌, ◌≤◌, refl, sym, ◌∙◌, ap, arith, subst, Bool, true, false, ◌||◌, IsTrue, List, [], ◌∷◌, ◌++◌, map, length, Option, None, Some, if◌then◌else◌}
 use Rattle.std.specs.List.{flat_map, AllByRecursion, range_with_len}
 use Rattle.std.specs.Str.{bytes_eq}
 use Rattle.std.proofs.lemmas.Bool.Decides.{nat_tests}
@@ -23,9 +23,8 @@ use Rattle.rx_block.proofs.FreshBlocks.{fresh-keeps}
 use Rattle.rx_circuit.specs.declared.values.ValueLine.{ValueLine}
 use Rattle.rx_circuit.specs.Values.{is_width, has_name, IsValueLine, NamesOnce, AreValues}
 use Rattle.rx_codec.specs.declared.cipher.Item.{Item}
-use Rattle.rx_codec.specs.CipherFile.{has_item, item_bytes, cipher_head, IsBlock, IsItem, ItemsOnce, IsCipher}
+use Rattle.rx_codec.specs.CipherFile.{has_item, item_bytes, cipher_head, cipher_bytes, IsBlock, IsItem, ItemsOnce, IsCipher}
 use Rattle.rx_client.specs.Encrypt.{blocks_in, line_blocks, line_item, items_from, encrypted_values, is_filled, has_width, first_width, KeepsDigits, KeepsValues}
-use Rattle.rx_client.proofs.Items.{HasWritten}
 
 -- ---- one block
 
@@ -168,18 +167,23 @@ pub values_keep : (p : Params) (key mask_seed noise_seed : List ℕ) (lines : Li
 unfolding encrypted_values
 values_keep p key mask_seed noise_seed lines fields are = items_keep p key mask_seed noise_seed 0 lines fields are.each
 
--- the head of the file stands, and no line is done
-pub written_none : (p : Params) (key mask_seed noise_seed : List ℕ) (lines : List ValueLine) (before file : List ℕ) →
-    file ≡ before ++ cipher_head p (length lines) → HasWritten p key mask_seed noise_seed lines 0 0 before file
+-- the head of the file and all items behind it are the whole
+pub values_spelled : (p : Params) (key mask_seed noise_seed : List ℕ) (lines : List ValueLine) (head file : List ℕ) →
+    head ≡ cipher_head p (length lines) → file ≡ head ++ flat_map item_bytes (items_from p key mask_seed noise_seed 0 lines) →
+    file ≡ cipher_bytes (encrypted_values p key mask_seed noise_seed lines)
 unfolding encrypted_values
-written_none p key mask_seed noise_seed lines before file head =
+values_spelled p key mask_seed noise_seed lines head file first whole =
     let items : List Item = items_from p key mask_seed noise_seed 0 lines in
-    record {
-      rest = ap (λ text. text ++ flat_map item_bytes items) head
-          ∙ append_assoc before (cipher_head p (length lines)) (flat_map item_bytes items)
-          ∙ ap (λ count. before ++ (cipher_head p count ++ flat_map item_bytes items)) (sym (items_count p key mask_seed noise_seed 0 lines));
-      numbers = omega arith;
-    }
+    whole
+    ∙ ap (λ text. text ++ flat_map item_bytes items) first
+    ∙ ap (λ count. cipher_head p count ++ flat_map item_bytes items) (sym (items_count p key mask_seed noise_seed 0 lines))
+
+-- the items of the lines under the set are the encryption
+pub values_are : (p : Params) (key mask_seed noise_seed : List ℕ) (lines : List ValueLine) (items : List Item) →
+    items ≡ items_from p key mask_seed noise_seed 0 lines →
+    record { params = p; items = items } ≡ encrypted_values p key mask_seed noise_seed lines
+unfolding encrypted_values
+values_are p key mask_seed noise_seed lines items are = ap (λ (all : List Item). record { params = p; items = all }) are
 
 pub values_params : (p : Params) (key mask_seed noise_seed : List ℕ) (lines : List ValueLine) →
     (encrypted_values p key mask_seed noise_seed lines).params ≡ p

@@ -14,7 +14,8 @@ use Rattle.rx_block.specs.Fresh.{fresh}
 use Rattle.rx_circuit.specs.declared.values.ValueLine.{ValueLine}
 use Rattle.rx_codec.specs.declared.cipher.Item.{Item}
 use Rattle.rx_client.specs.Encrypt.{line_digits, line_blocks, line_item, items_from, encrypted_values, first_width}
-use Rattle.rx_client.specs.Decrypt.{number_of, named_line, item_lines, first_damage, kept_lines}
+use Rattle.rx_net.specs.Numbers.{number_of}
+use Rattle.rx_client.specs.Decrypt.{named_line, item_lines, first_damage, kept_lines}
 
 -- ---- the number of some digits: 200, and the greatest numbers of 63 and of 64 bits
 numbers : (number_of 2 (0 ∷ 2 ∷ 0 ∷ 3 ∷ []) ≡ 200) × (number_of 3 (replicate 21 7) ≡ 2 ^ 63 - 1) × (number_of 2 (replicate 32 3) ≡ 2 ^ 64 - 1) × (number_of 2 [] ≡ 0)

@@ -1,5 +1,5 @@
 -- The file of lines, as far as a loop over them has come.
-use Rattle.std.proofs.Common.{◌≡◌, ℕ, ◌+◌, ◌*◌, ◌≤◌, List, ◌++◌, drop, map, sym, ap, ◌∙◌, append_assoc, arith}
+use Rattle.std.proofs.Common.{◌≡◌, ℕ, ◌+◌, ◌*◌, ◌≤◌, List, [], ◌∷◌, ◌++◌, drop, map, sym, ap, ◌∙◌, append_assoc, arith}
 use Rattle.std.specs.List.{flat_map, range_with_len}
 use Rattle.std.proofs.lemmas.List.{flat_map_more}
 use Rattle.std.proofs.lemmas.List.FromFn.{map-range_with_len_more}
@@ -8,8 +8,9 @@ use Rattle.rx_params.specs.Kinds.{digit_at}
 use Rattle.rx_block.specs.declared.block.Block.{Block}
 use Rattle.rx_block.specs.Fresh.{fresh}
 use Rattle.rx_circuit.specs.declared.values.ValueLine.{ValueLine}
-use Rattle.rx_codec.specs.CipherFile.{block_bytes, item_bytes, cipher_bytes}
-use Rattle.rx_client.specs.Encrypt.{items_from, encrypted_values}
+use Rattle.rx_codec.specs.declared.cipher.Item.{Item}
+use Rattle.rx_codec.specs.CipherFile.{block_bytes, item_bytes}
+use Rattle.rx_client.specs.Encrypt.{items_from}
 
 -- block i of a line
 abbrev pub line_block : Params → List ℕ → List ℕ → List ℕ → ℕ → ValueLine → ℕ → Block
@@ -36,9 +37,29 @@ blocks_to-more p key mask_seed noise_seed number v n before head old new block w
     ∙ ap (λ text. before ++ text) (flat_map_more block_bytes head blocks (f n))
     ∙ ap (λ all. before ++ (head ++ flat_map block_bytes all)) (sym (map-range_with_len_more f 0 n n (omega arith)))
 
+-- the first n blocks of a line
+abbrev pub line_blocks_to : Params → List ℕ → List ℕ → List ℕ → ℕ → ValueLine → ℕ → List Block
+line_blocks_to p key mask_seed noise_seed number v n = map (line_block p key mask_seed noise_seed number v) (range_with_len 0 n)
+
+-- one more block of a line
+pub line_blocks_to-more : (p : Params) (key mask_seed noise_seed : List ℕ) (number : ℕ) (v : ValueLine) (n : ℕ) (old new : List Block) (block : Block) →
+    old ≡ line_blocks_to p key mask_seed noise_seed number v n → new ≡ old ++ block ∷ [] →
+    line_block p key mask_seed noise_seed number v n ≡ block → new ≡ line_blocks_to p key mask_seed noise_seed number v (n + 1)
+line_blocks_to-more p key mask_seed noise_seed number v n old new block made more is =
+    let f : ℕ → Block = line_block p key mask_seed noise_seed number v in
+    more
+    ∙ ap (λ b. old ++ b ∷ []) (sym is)
+    ∙ ap (λ blocks. blocks ++ f n ∷ []) made
+    ∙ sym (map-range_with_len_more f 0 n n (omega arith))
+
+-- The items of the first n lines were made: with those of the other lines, whose blocks are numbered on from here, they are all.
+pub record HasMade (p : Params) (key mask_seed noise_seed : List ℕ) (lines : List ValueLine) (n number : ℕ) (items : List Item) : Type 0 where
+  pub rest : items ++ items_from p key mask_seed noise_seed number (drop n lines) ≡ items_from p key mask_seed noise_seed 0 lines
+  pub numbers : number ≤ 32 * n
+
 -- The file has the items of the first n lines behind what it had before: with those of the other lines, whose blocks are
--- numbered on from here, it is the whole.
+-- numbered on from here, it has all.
 pub record HasWritten (p : Params) (key mask_seed noise_seed : List ℕ) (lines : List ValueLine) (n number : ℕ) (before file : List ℕ) : Type 0 where
   pub rest : file ++ flat_map item_bytes (items_from p key mask_seed noise_seed number (drop n lines))
-      ≡ before ++ cipher_bytes (encrypted_values p key mask_seed noise_seed lines)
+      ≡ before ++ flat_map item_bytes (items_from p key mask_seed noise_seed 0 lines)
   pub numbers : number ≤ 32 * n

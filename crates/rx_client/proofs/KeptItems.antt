@@ -9,7 +9,8 @@ use Rattle.rx_block.specs.NoiseLaws.{KeepsLaws}
 use Rattle.rx_block.proofs.KeptLists.{first_kept}
 use Rattle.rx_codec.specs.declared.cipher.Item.{Item}
 use Rattle.rx_codec.specs.Kept.{AreItemsKept}
-use Rattle.rx_client.specs.Decrypt.{block_number, number_of, named_line, item_lines, kept_lines, damage_here, damage_in, first_damage}
+use Rattle.rx_net.specs.Numbers.{number_of}
+use Rattle.rx_client.specs.Decrypt.{block_number, named_line, item_lines, kept_lines, damage_here, damage_in, first_damage}
 use Rattle.rx_client.specs.Laws.{ReadingLaws}
 use Rattle.rx_client.proofs.Numbers.{within}
 

@@ -18,7 +18,7 @@ use Rattle.rx_circuit.specs.declared.values.ValueLine.{ValueLine}
 use Rattle.rx_circuit.specs.Values.{is_width, IsValueLine, AreValues}
 use Rattle.rx_codec.specs.Kept.{AreItemsKept}
 use Rattle.rx_client.specs.Encrypt.{blocks_in, line_digits, line_blocks, items_from, encrypted_values, is_filled, has_width}
-use Rattle.rx_client.specs.Decrypt.{number_of}
+use Rattle.rx_net.specs.Numbers.{number_of}
 use Rattle.rx_client.proofs.Numbers.{power-more}
 use Rattle.rx_client.proofs.Encrypted.{digit-small}
 

@@ -15,7 +15,8 @@ use Rattle.rx_block.specs.declared.block.Damaged.{Damaged}
 use Rattle.rx_block.specs.Keeps.{within_degree, decrypted}
 use Rattle.rx_codec.specs.declared.cipher.Item.{Item}
 use Rattle.rx_codec.specs.CipherFile.{IsBlock, IsItem}
-use Rattle.rx_client.specs.Decrypt.{block_number, number_of, item_number, damage_here, damage_in}
+use Rattle.rx_net.specs.Numbers.{number_of}
+use Rattle.rx_client.specs.Decrypt.{block_number, item_number, damage_here, damage_in}
 
 -- the first n blocks are within their degrees and make up the number
 pub record HasRead (p : Params) (key : List ℕ) (item : Item) (n number : ℕ) : Type 0 where

@@ -1,10 +1,11 @@
 -- What a client reads: the number of each item, by what its blocks decode to.
-use Rattle.std.specs.Prelude.{ℕ, ◌+◌, ◌*◌, ◌^◌, List, [], ◌∷◌, ◌++◌, map, decimal, Option, Some, None, Result, Ok, Err}
+use Rattle.std.specs.Prelude.{ℕ, ◌+◌, List, [], ◌∷◌, ◌++◌, map, decimal, Option, Some, None, Result, Ok, Err}
 use Rattle.std.specs.List.{flat_map}
 use Rattle.std.specs.Option.{option_or}
 use Rattle.rx_laws.specs.Decode.{decoded}
 use Rattle.rx_params.specs.declared.params.Params.{Params}
 use Rattle.rx_lwe.specs.Lwe.{phase_of}
+use Rattle.rx_net.specs.Numbers.{number_of}
 use Rattle.rx_block.specs.declared.block.Block.{Block}
 use Rattle.rx_block.specs.declared.block.Damaged.{Damaged}
 use Rattle.rx_block.specs.Keeps.{decrypted}
@@ -14,11 +15,6 @@ use Rattle.rx_client.specs.declared.decrypt.Damage.{Damage}
 -- what a block decodes to
 abbrev pub block_number : Params → List ℕ → Block → ℕ
 block_number p key block = decoded p.message_bits (phase_of key block.words)
-
--- the number of some digits, the least first, to the base 2 ^ message_bits
-abbrev pub number_of : ℕ → List ℕ → ℕ
-number_of message_bits [] = 0
-number_of message_bits (digit ∷ digits) = digit + 2 ^ message_bits * number_of message_bits digits
 
 abbrev pub item_number : Params → List ℕ → Item → ℕ
 item_number p key item = number_of p.message_bits (map (block_number p key) item.blocks)

@@ -6,6 +6,7 @@ use Rattle.rx_params.specs.declared.params.Params.{Params}
 use Rattle.rx_params.specs.declared.kind.Kind.{Kind}
 use Rattle.rx_params.specs.declared.kind.Kind.TheVariants.{Int, Bit}
 use Rattle.rx_params.specs.Kinds.{block_count, digit_at}
+use Rattle.rx_net.specs.Numbers.{digits_of}
 use Rattle.rx_circuit.specs.declared.values.ValueLine.{ValueLine}
 use Rattle.rx_block.specs.declared.block.Block.{Block}
 use Rattle.rx_block.specs.Fresh.{fresh}
@@ -20,7 +21,7 @@ blocks_in p v = block_count v.kind p.message_bits v.bits
 -- the digits of a line, the lowest first
 abbrev pub line_digits : ℕ → ValueLine → List ℕ
 line_digits message_bits v =
-    map (digit_at message_bits v.value) (range_with_len 0 (block_count v.kind message_bits v.bits))
+    digits_of message_bits (block_count v.kind message_bits v.bits) v.value
 
 -- the fresh blocks of the digits of a line, the first of which has this number
 abbrev pub line_blocks : Params → List ℕ → List ℕ → List ℕ → ℕ → ValueLine → List Block

@@ -7,7 +7,8 @@ use Rattle.rx_circuit.specs.Values.{IsValueLine, AreValues}
 use Rattle.rx_codec.specs.declared.cipher.Item.{Item}
 use Rattle.rx_codec.specs.Kept.{AreItemsKept}
 use Rattle.rx_client.specs.Encrypt.{line_digits, encrypted_values, has_width}
-use Rattle.rx_client.specs.Decrypt.{number_of, item_lines, kept_lines, first_damage}
+use Rattle.rx_net.specs.Numbers.{number_of}
+use Rattle.rx_client.specs.Decrypt.{item_lines, kept_lines, first_damage}
 
 -- Under an accepted set items whose blocks keep digits have no damaged block, and their lines are those of the digits' numbers.
 pub record ReadingLaws : Type 0 where

@@ -23,7 +23,7 @@ pub struct Damage {
     pub name: Name,
     /// The block's place in its item, from 0.
     pub block: u32,
-    /// The number that it decodes to, below `4^message_bits`.
+    /// The number that it decodes to, below `2 * 4^message_bits`.
     pub decoded: u32,
     /// Its degree.
     pub degree: u8,

@@ -1,17 +1,18 @@
 //! Numbers of a value file under encryption.
 ghost use Rattle.std.specs.Prelude.{◌≡◌, ◌⊎◌, ◌+◌, ◌*◌, ◌^◌, ◌<◌, ◌++◌, IfOk, OnOk, None, length, map};
+ghost use Rattle.std.specs.List.{flat_map};
 ghost use Rattle.std.specs.Option.{option_copied};
 ghost use Rattle.rx_params.specs.Acceptance.{Accepts, FieldsInRange};
 ghost use Rattle.rx_params.specs.Derived.{large_dim};
 ghost use Rattle.rx_params.specs.Kinds.{block_count, digit_at as digit_of};
 ghost use Rattle.rx_circuit.specs.Values.{AreValues, IsValueLine};
-ghost use Rattle.rx_codec.specs.CipherFile.{CipherFile, cipher_bytes, item_bytes};
+ghost use Rattle.rx_codec.specs.CipherFile.{CipherFile, IsCipher, IsWritable, item_bytes};
 ghost use Rattle.rx_codec.specs.Kept.{AreItemsKept};
-ghost use Rattle.rx_client.specs.Encrypt.{line_digits, line_item, encrypted_values, has_width as has_width_of, first_width, KeepsValues};
+ghost use Rattle.rx_client.specs.Encrypt.{line_digits, line_item, items_from, encrypted_values, has_width as has_width_of, first_width, KeepsValues};
 
-use rx_block::fresh_words_into;
+use rx_block::{fresh_block, fresh_words_into};
 use rx_circuit::ValueLine;
-use rx_codec::{HEAD_SIZE, item_size, write_block, write_cipher_head, write_name_and_form};
+use rx_codec::{Blocks, Cipher, CipherWriter, HEAD_SIZE, Item, Items, item_size};
 use rx_lwe::SecretKey;
 use rx_params::{Kind, Params};
 use std::alloc::{AllocError, Global};
@@ -64,9 +65,102 @@ pub fn encrypt_values(
         (map (line_digits p.now.message_bits) lines.now)) }
 {
     let mut words = vec![in alloc; 0; key.bits().len() + 1]?;
-    let mut file = Vec::with_capacity(alloc, file_size(p, words.len(), lines))?;
-    write_file(&mut file, &mut words, p, key, mask_seed, noise_seed, lines)?;
-    Ok(file)
+    let size = file_size(p, words.len(), lines);
+    let mut file = CipherWriter::new(alloc, p, lines.len() as u32, size)?;
+    write_items(&mut file, &mut words, p, key, mask_seed, noise_seed, lines)?;
+    Ok(file.finish())
+}
+
+/// The same as a value: what the file of `encrypt_values` spells.
+pub fn encrypt_cipher(
+    alloc: Global,
+    p: &Params,
+    key: &SecretKey,
+    mask_seed: &[u8; 32],
+    noise_seed: &[u8; 32],
+    lines: &[ValueLine],
+) -> Result<Cipher, AllocError>
+    requires accepted { Accepts p.now }
+    requires key { length key.now ≡ large_dim p.now }
+    requires values { AreValues lines.now }
+    requires widths { first_width p.now.message_bits lines.now ≡ None }
+    ensures exact { IfOk result (λ cipher. cipher
+        ≡ encrypted_values p.now key.now mask_seed.now noise_seed.now lines.now) }
+    ensures fits { IfOk result IsCipher }
+    ensures writable { IfOk result IsWritable }
+    ensures keeps { IfOk result (λ cipher. KeepsValues p.now key.now cipher.items lines.now) }
+    ensures kept { IfOk result (λ cipher. AreItemsKept p.now key.now cipher.items
+        (map (line_digits p.now.message_bits) lines.now)) }
+{
+    let items = fresh_items(alloc, p, key, mask_seed, noise_seed, lines)?;
+    Ok(Cipher {
+        params: *p,
+        items: Items::from_vec(items),
+    })
+}
+
+/// The items of some lines.
+fn fresh_items(
+    alloc: Global,
+    p: &Params,
+    key: &SecretKey,
+    mask_seed: &[u8; 32],
+    noise_seed: &[u8; 32],
+    lines: &[ValueLine],
+) -> Result<Vec<Item>, AllocError>
+    requires fields { FieldsInRange p.now }
+    requires values { AreValues lines.now }
+    ensures { IfOk result (λ items. items.items
+        ≡ items_from p.now key.now mask_seed.now noise_seed.now 0 lines.now) }
+{
+    let mut items = Vec::with_capacity(alloc, lines.len())?;
+    let mut number = 0;
+    for line in lines {
+        let item = fresh_item(alloc, p, key, mask_seed, noise_seed, number, line)?;
+        items.push(item)?;
+        number += blocks_in(p.message_bits, line);
+    }
+    Ok(items)
+}
+
+/// The item of a line, whose first block has this number.
+fn fresh_item(
+    alloc: Global,
+    p: &Params,
+    key: &SecretKey,
+    mask_seed: &[u8; 32],
+    noise_seed: &[u8; 32],
+    number: u32,
+    line: &ValueLine,
+) -> Result<Item, AllocError>
+    requires fields { FieldsInRange p.now }
+    requires line { IsValueLine line.now }
+    requires numbers { number + 64 < 2 ^ 32 }
+    ensures { IfOk result (λ item. item
+        ≡ line_item p.now key.now mask_seed.now noise_seed.now number line.now) }
+{
+    let count = blocks_in(p.message_bits, line);
+    let mut blocks = Vec::with_capacity(alloc, count as usize)?;
+    for i in 0..count {
+        let digit = digit_at(p.message_bits, line.value, i);
+        let block = fresh_block(
+            alloc,
+            p,
+            key,
+            mask_seed,
+            noise_seed,
+            number + i,
+            line.kind,
+            digit,
+        )?;
+        blocks.push(block)?;
+    }
+    Ok(Item {
+        name: line.name,
+        kind: line.kind,
+        bits: line.bits,
+        blocks: Blocks::from_vec(blocks),
+    })
 }
 
 /// The bytes of the file of some lines, in blocks of so many words, as far as a size can be counted.
@@ -81,9 +175,9 @@ fn file_size(p: &Params, words: usize, lines: &[ValueLine]) -> usize
     size
 }
 
-/// Adds the whole file of some lines. Each block is made in the lent words.
-fn write_file(
-    file: &mut Vec<u8>,
+/// Adds the items of some lines. Each block is made in the lent words.
+fn write_items(
+    file: &mut CipherWriter,
     words: &mut [u64],
     p: &Params,
     key: &SecretKey,
@@ -94,10 +188,9 @@ fn write_file(
     requires fields { FieldsInRange p.now }
     requires values { AreValues lines.now }
     requires room { length words.old ≡ length key.now + 1 }
-    ensures { OnOk result (file.new.items ≡ file.old.items
-        ++ cipher_bytes (encrypted_values p.now key.now mask_seed.now noise_seed.now lines.now)) }
+    ensures { OnOk result (file.new ≡ file.old ++ flat_map item_bytes
+        (items_from p.now key.now mask_seed.now noise_seed.now 0 lines.now)) }
 {
-    write_cipher_head(file, p, lines.len() as u32)?;
     let mut number = 0;
     for line in lines {
         write_item(file, words, p, key, mask_seed, noise_seed, number, line)?;
@@ -108,7 +201,7 @@ fn write_file(
 
 /// Adds the item of a line, whose first block has this number.
 fn write_item(
-    file: &mut Vec<u8>,
+    file: &mut CipherWriter,
     words: &mut [u64],
     p: &Params,
     key: &SecretKey,
@@ -121,10 +214,10 @@ fn write_item(
     requires line { IsValueLine line.now }
     requires numbers { number + 64 < 2 ^ 32 }
     requires room { length words.old ≡ length key.now + 1 }
-    ensures { OnOk result (file.new.items ≡ file.old.items
+    ensures { OnOk result (file.new ≡ file.old
         ++ item_bytes (line_item p.now key.now mask_seed.now noise_seed.now number line.now)) }
 {
-    write_name_and_form(file, &line.name, line.kind, line.bits)?;
+    file.item(&line.name, line.kind, line.bits)?;
     for i in 0..blocks_in(p.message_bits, line) {
         let digit = digit_at(p.message_bits, line.value, i);
         let tags = fresh_words_into(
@@ -137,7 +230,7 @@ fn write_item(
             digit,
             words,
         );
-        write_block(file, words, tags)?;
+        file.block(words, tags)?;
     }
     Ok(())
 }

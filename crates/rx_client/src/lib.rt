@@ -10,5 +10,5 @@ mod laws;
 mod tests;
 
 pub use decrypt::{Damage, DecryptError, decrypt_items};
-pub use encrypt::{encrypt_values, wrong_width_in};
+pub use encrypt::{encrypt_cipher, encrypt_values, wrong_width_in};
 pub use laws::{encrypting_laws, reading_laws};

@@ -1,13 +1,15 @@
 -- The ciphertext file: what is read is spelled so, and what is spelled so is read.
-use Rattle.std.proofs.Common.{◌≡◌, ℕ, ◌+◌, ◌^◌, Bool, true, false, leb, List, [], ◌∷◌, ◌++◌, length, Result, Ok, Err, refl, sym, ap, subst, ◌∙◌, arith}
-use Rattle.std.specs.Prelude.{IfOk, codes}
+use Rattle.std.proofs.Common.{◌≡◌, ℕ, ◌+◌, ◌^◌, ◌≤◌, Bool, true, false, leb, List, [], ◌∷◌, ◌++◌, length, take, Result, Ok, Err, refl, sym, ap, subst, ◌∙◌, arith}
+use Rattle.std.specs.Prelude.{IfOk, IsTrue, codes}
 use Rattle.std.specs.List.{flat_map, AllByRecursion}
 use Rattle.std.specs.Str.{bytes_eq}
 use Rattle.std.specs.Int.{w32, to_le_bytes}
 use Rattle.std.proofs.lemmas.Bool.{leb-true, le-leb, or_parts}
 use Rattle.std.proofs.lemmas.Bool.Decides.{same_from_decides, Decides-like}
 use Rattle.std.proofs.lemmas.Slice.Eq.{bytes_eq-Decides}
+use Rattle.std.proofs.lemmas.List.{drop_all, take_all}
 use Rattle.std.proofs.lemmas.List.Folds.{list_any-append}
+use Rattle.rx_text.specs.Names.{is_name}
 use Rattle.rx_params.specs.declared.params.Params.{Params}
 use Rattle.rx_net.specs.Legal.{InTurn}
 use Rattle.rx_codec.specs.declared.cipher.Item.{Item}
@@ -15,11 +17,12 @@ use Rattle.rx_codec.specs.declared.cipher.Cipher.{Cipher}
 use Rattle.rx_codec.specs.declared.fault.CodecFault.{CodecFault}
 use Rattle.rx_codec.specs.Reading.{◌>>=◌, Gives, number_at, in_range, magic_at, ends_at}
 use Rattle.rx_codec.specs.ParamsFields.{params_bytes, params_at}
-use Rattle.rx_codec.specs.CipherFile.{has_item, item_bytes, cipher_bytes, IsItem, ItemsOnce, CipherFile, item_at, items_at, cipher_from}
+use Rattle.rx_codec.specs.CipherFile.{has_item, item_bytes, cipher_head, cipher_bytes, IsItem, ItemsOnce, IsWritableItem, IsWritable, IsCipher, CipherFile, CipherRead, item_at, items_at, cipher_from}
 use Rattle.rx_codec.proofs.Fields.{IsBytes, Stands, Stands-then, Stands-first, Stands-second, Stands-whole, whole-Stands, bind_ok, wide32, number_takes, number_again, in_range_takes, magic_takes, magic_again, ends_takes, ends_again}
 use Rattle.rx_codec.proofs.Params.{params_takes, params_again}
 use Rattle.rx_codec.proofs.Manys.{many_takes, many_again, each_of_turn}
 use Rattle.rx_codec.proofs.ItemFields.{ItemFits, item_tells}
+use Rattle.rx_codec.proofs.Named.{AreUpto}
 
 -- ---- names that stand once
 
@@ -82,7 +85,7 @@ abbrev after_params : List ℕ → Params × ℕ → Result Cipher CodecFault
 after_params file params = number_at w32 file params.1 >>= λ count. in_range (leb count.0 64) params.1 count >>= after_count params.0 file
 
 -- what is read is a ciphertext file
-pub cipher_spelled : (file : List ℕ) (c : Cipher) → IsBytes file → cipher_from file ≡ Ok c → CipherFile file c
+pub cipher_spelled : (file : List ℕ) (c : Cipher) → IsBytes file → cipher_from file ≡ Ok c → CipherRead file c
 unfolding cipher_from
 cipher_spelled file c fits e =
     let magic = bind_ok (magic_at (codes "RXE1") file) (λ after. params_at file after >>= after_params file) c e in
@@ -116,12 +119,12 @@ cipher_spelled file c fits e =
       spelled = whole;
     })
 
-pub cipher_found : (file : List ℕ) (result : Result Cipher CodecFault) → IsBytes file → Gives (λ c. c) result (cipher_from file) → IfOk result (λ c. CipherFile file c)
+pub cipher_found : (file : List ℕ) (result : Result Cipher CodecFault) → IsBytes file → Gives (λ c. c) result (cipher_from file) → IfOk result (λ c. CipherRead file c)
 cipher_found file (Ok c) fits exact = cipher_spelled file c fits exact
 cipher_found file (Err fault) fits exact = tt
 
 -- a ciphertext file is read
-pub cipher_again : (file : List ℕ) (c : Cipher) → CipherFile file c → cipher_from file ≡ Ok c
+pub cipher_again : (file : List ℕ) (c : Cipher) → CipherRead file c → cipher_from file ≡ Ok c
 unfolding cipher_from
 cipher_again file c h =
     let magic = codes "RXE1" in
@@ -146,5 +149,46 @@ cipher_again file c h =
     (items_fit c.params [] c.items h.fits.items (none_before c.items) h.fits.once) s3)
     ∙ ends_again file (length file) (cipher_of c.params c.items) refl
 
-pub cipher_only : (file : List ℕ) (result : Result Cipher CodecFault) (c : Cipher) → Gives (λ d. d) result (cipher_from file) → CipherFile file c → Gives (λ d. d) result (Ok c)
+pub cipher_only : (file : List ℕ) (result : Result Cipher CodecFault) (c : Cipher) → Gives (λ d. d) result (cipher_from file) → CipherRead file c → Gives (λ d. d) result (Ok c)
 cipher_only file result c exact h = subst (Gives (λ d. d) result) (cipher_again file c h) exact
+
+-- ---- what is written
+
+-- whether the name of an item is a name
+abbrev pub IsNamed : Item → Type 0
+IsNamed i = IsTrue (is_name i.name)
+
+items_named : (p : Params) (items : List Item) → AllByRecursion (IsWritableItem p) items → AllByRecursion IsNamed items → AllByRecursion (IsItem p) items
+items_named p [] each names = tt
+items_named p (i ∷ items) each names =
+    (record { name = names.0; form = each.0.form; count = each.0.count; blocks = each.0.blocks }, items_named p items each.1 names.1)
+
+-- a cipher that may be written, whose names are names
+pub cipher_named : (c : Cipher) → IsWritable c → AllByRecursion IsNamed c.items → IsCipher c
+cipher_named c may names = record {
+  accepted = may.accepted;
+  count = may.count;
+  items = items_named c.params c.items may.items names;
+  once = may.once;
+}
+
+items_writable : (p : Params) (items : List Item) → AllByRecursion (IsItem p) items → AllByRecursion (IsWritableItem p) items
+items_writable p [] each = tt
+items_writable p (i ∷ items) each =
+    (record { form = each.0.form; count = each.0.count; blocks = each.0.blocks }, items_writable p items each.1)
+
+pub writable : (c : Cipher) → IsCipher c → IsWritable c
+writable c is = record {
+  accepted = is.accepted;
+  count = is.count;
+  items = items_writable c.params c.items is.items;
+  once = is.once;
+}
+
+-- the file whose items were all written
+pub cipher_written : (c : Cipher) (n : ℕ) (bytes : List ℕ) → IsWritable c → length c.items ≤ n →
+    bytes ≡ cipher_head c.params (length c.items) ++ flat_map item_bytes (take n c.items) → AreUpto IsNamed n c.items → CipherFile bytes c
+cipher_written c n bytes may past text names = record {
+  fits = cipher_named c may (names.with (subst (AllByRecursion IsNamed) (sym (drop_all n c.items past)) tt));
+  spelled = text ∙ ap (λ (items : List Item). cipher_head c.params (length c.items) ++ flat_map item_bytes items) (take_all n c.items past);
+}

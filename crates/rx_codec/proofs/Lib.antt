@@ -4,6 +4,7 @@ pub mod Params
 pub mod Clients
 pub mod Servers
 pub mod Loops
+pub mod Named
 pub mod Words
 pub mod BlockFields
 pub mod NamesAndForms

@@ -25,7 +25,7 @@ use Rattle.rx_codec.specs.declared.fault.CodecFault.{CodecFault}
 use Rattle.rx_codec.specs.Reading.{◌>>=◌, Gives, number_at, in_range, list_bytes, list_at, magic_at, ends_at}
 use Rattle.rx_codec.specs.NetFile.{input_bytes, job_bytes, output_bytes, lists_bytes, net_bytes, NetFile, input_at, job_at, output_at, space_at, lists_at, spelled_from, legal_or, net_from}
 use Rattle.rx_codec.proofs.Fields.{IsBytes, Stands, Stands-then, Stands-first, Stands-second, Stands-whole, whole-Stands, bind_ok, ok_is, wide8, wide16, wide32, number_takes, number_again, in_range_takes, magic_takes, magic_again, ends_takes, ends_again}
-use Rattle.rx_codec.proofs.NamesAndForms.{name_size, form_bits}
+use Rattle.rx_codec.proofs.NamesAndForms.{form_bits}
 use Rattle.rx_codec.proofs.Manys.{each_of_turn, list_takes, list_again, IsFourBytes}
 use Rattle.rx_codec.proofs.NetFields.{byte_bytes, IsSpace, IsTerm, IsSpelledJob, InputFits, OutputFits, input_tells, job_tells, output_tells}
 
@@ -264,18 +264,18 @@ net_only laws file result n exact h = subst (Gives (λ m. m) result) (net_again 
 
 -- ---- what is written
 
-pub inputs_short : (space : ℕ) (before is : List NetInput) → InTurn (λ before i. IsTrue (is_input space before i)) before is → AllByRecursion (λ (i : NetInput). IsTrue (is_name i.name)) is → AllByRecursion (λ (i : NetInput). (length i.name ≤ 32) × (i.bits ≤ 64)) is
-inputs_short space before [] h names = tt
-inputs_short space before (i ∷ is) h names =
+pub inputs_short : (space : ℕ) (before is : List NetInput) → InTurn (λ before i. IsTrue (is_input space before i)) before is → AllByRecursion (λ (i : NetInput). i.bits ≤ 64) is
+inputs_short space before [] h = tt
+inputs_short space before (i ∷ is) h =
     let form = and_parts (is_form space i.kind i.bits) (has_input_tags space i && not (names_input i.name before)) h.0 in
-    (((name_size i.name names.0).1, form_bits space i.kind i.bits form.0), inputs_short space (before ++ i ∷ []) is h.1 names.1)
+    (form_bits space i.kind i.bits form.0, inputs_short space (before ++ i ∷ []) is h.1)
 
 pub jobs_short : (before js : List Job) → InTurn (λ before (j : Job). length j.terms ≤ 16) before js → AllByRecursion (λ (j : Job). length j.terms ≤ 16) js
 jobs_short before [] h = tt
 jobs_short before (j ∷ js) h = (h.0, jobs_short (before ++ j ∷ []) js h.1)
 
-pub outputs_short : (space count : ℕ) (degrees : ℕ → ℕ) (before os : List NetOutput) → InTurn (λ before o. IsTrue (is_output space count degrees before o)) before os → AllByRecursion (λ (o : NetOutput). IsTrue (is_name o.name)) os → AllByRecursion (λ (o : NetOutput). (length o.name ≤ 32) × (o.bits ≤ 64)) os
-outputs_short space count degrees before [] h names = tt
-outputs_short space count degrees before (o ∷ os) h names =
+pub outputs_short : (space count : ℕ) (degrees : ℕ → ℕ) (before os : List NetOutput) → InTurn (λ before o. IsTrue (is_output space count degrees before o)) before os → AllByRecursion (λ (o : NetOutput). o.bits ≤ 64) os
+outputs_short space count degrees before [] h = tt
+outputs_short space count degrees before (o ∷ os) h =
     let form = and_parts (is_form space o.kind o.bits) (eqb (length o.cells) (block_count o.kind space o.bits) && (not (names_output o.name before) && are_cells count degrees (greatest o.kind space) o.cells)) h.0 in
-    (((name_size o.name names.0).1, form_bits space o.kind o.bits form.0), outputs_short space count degrees (before ++ o ∷ []) os h.1 names.1)
+    (form_bits space o.kind o.bits form.0, outputs_short space count degrees (before ++ o ∷ []) os h.1)

@@ -47,6 +47,12 @@ pub record IsBlock (p : Params) (kind : Kind) (b : Block) : Type 0 where
   pub size : length b.words ≡ large_dim p + 1
   pub words : EachIndex b.words (λ i. slice_index b.words i < 2 ^ 64)
 
+-- an item, whatever text its name is
+pub record IsWritableItem (p : Params) (i : Item) : Type 0 where
+  pub form : IsTrue (is_form p.message_bits i.kind i.bits)
+  pub count : length i.blocks ≡ block_count i.kind p.message_bits i.bits
+  pub blocks : AllByRecursion (IsBlock p i.kind) i.blocks
+
 pub record IsItem (p : Params) (i : Item) : Type 0 where
   pub name : IsTrue (is_name i.name)
   pub form : IsTrue (is_form p.message_bits i.kind i.bits)
@@ -58,6 +64,13 @@ abbrev pub ItemsOnce : List Item → Type 0
 ItemsOnce [] = Unit {0}
 ItemsOnce (i ∷ items) = (has_item i.name items ≡ false) × ItemsOnce items
 
+-- what is asked of a cipher that is to be written: all but that names are names, as each `Name` is
+pub record IsWritable (c : Cipher) : Type 0 where
+  pub accepted : Accepts c.params
+  pub count : length c.items ≤ 64
+  pub items : AllByRecursion (IsWritableItem c.params) c.items
+  pub once : ItemsOnce c.items
+
 pub record IsCipher (c : Cipher) : Type 0 where
   pub accepted : Accepts c.params
   pub count : length c.items ≤ 64
@@ -68,6 +81,10 @@ pub record IsCipher (c : Cipher) : Type 0 where
 pub record CipherFile (bytes : List ℕ) (c : Cipher) : Type 0 where
   pub fits : IsCipher c
   pub spelled : bytes ≡ cipher_bytes c
+
+-- The bytes read as the cipher: they are its file. Decoders speak of this relation, and encoders of the one above.
+abbrev pub CipherRead : List ℕ → Cipher → Type 0
+CipherRead bytes c = CipherFile bytes c
 
 -- ---- reading, with the first fault
 unfoldable pub block_at : Params → Kind → List ℕ → ℕ → Result (Block × ℕ) CodecFault
@@ -103,6 +120,3 @@ cipher_from file = do
   count ← in_range (nat_le count.0 64) params.1 count
   items ← items_at params.0 count.0 [] file count.1
   ends_at file items.1 (record { params = params.0; items = items.0 })
-
-abbrev pub CipherRead : List ℕ → Cipher → Type 0
-CipherRead bytes c = CipherFile bytes c

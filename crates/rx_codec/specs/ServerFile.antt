@@ -32,6 +32,10 @@ pub record ServerFile (bytes : List ℕ) (k : ServerWords) : Type 0 where
   pub fits : IsServer k
   pub spelled : bytes ≡ server_bytes k
 
+-- The bytes read as the key: they are its file. Decoders speak of this relation, and encoders of the one above.
+abbrev pub ServerRead : List ℕ → ServerWords → Type 0
+ServerRead bytes k = ServerFile bytes k
+
 -- the key of a set with these words, those of the bootstrapping rows first
 abbrev pub key_of : Params → List ℕ → ServerWords
 key_of p words = record { params = p; boot = take (boot_size p) words; switch = drop (boot_size p) words }
@@ -43,6 +47,3 @@ server_from file = do
   params ← params_at file after
   words ← words_at (key_words params.0) file params.1
   ends_at file words.1 (key_of params.0 words.0)
-
-abbrev pub ServerRead : List ℕ → ServerWords → Type 0
-ServerRead bytes k = ServerFile bytes k

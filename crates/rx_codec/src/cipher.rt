@@ -1,15 +1,16 @@
 //! The ciphertext file: named numbers under encryption.
-ghost use Rattle.std.specs.Prelude.{◌≡◌, ◌≤◌, ◌++◌, length, IfOk, OnOk, Ok, []};
+ghost use Rattle.std.specs.Prelude.{◌≡◌, ◌≤◌, ◌++◌, IsTrue, IfOk, OnOk, Ok, []};
+ghost use Rattle.rx_text.specs.Names.{is_name};
 ghost use Rattle.rx_params.specs.Acceptance.{Accepts};
 ghost use Rattle.rx_codec.specs.declared.cipher.Cipher.{Cipher};
 ghost use Rattle.rx_codec.specs.Reading.{GivesExactlyAt, GivesAt, Gives};
-ghost use Rattle.rx_codec.specs.CipherFile.{CipherFile, IsCipher, cipher_bytes, item_bytes, cipher_from, items_at, item_at, blocks_at, block_at, has_item as item_has_name};
+ghost use Rattle.rx_codec.specs.CipherFile.{CipherFile, CipherRead, IsWritable, item_bytes, cipher_from, items_at, item_at, blocks_at, block_at, has_item as item_has_name};
 ghost use Rattle.rx_codec.specs.NamedFields.{name_at};
 
 use crate::CodecFault;
-use crate::cipher_parts::{HEAD_SIZE, item_size, write_block, write_cipher_head};
+use crate::cipher_writer::{CipherWriter, HEAD_SIZE, item_size};
 use crate::lists::{Blocks, Items};
-use crate::named_fields::{new_name, read_form, read_name_size, write_name_and_form};
+use crate::named_fields::{new_name, read_form, read_name_size};
 use crate::params_fields::read_params;
 use crate::reader::{Reader, in_range};
 use crate::shapes::block_words;
@@ -46,8 +47,8 @@ pub struct Cipher {
 /// The cipher that a file spells, or its first fault.
 pub fn decode_cipher(alloc: Global, bytes: &[u8]) -> Result<Cipher, CodecFault>
     ensures exact { Gives (λ c. c) result (cipher_from bytes.now) }
-    ensures found { IfOk result (λ c. CipherFile bytes.now c) }
-    ensures only { (c : Cipher) → CipherFile bytes.now c → Gives (λ c. c) result (Ok c) }
+    ensures found { IfOk result (λ c. CipherRead bytes.now c) }
+    ensures only { (c : Cipher) → CipherRead bytes.now c → Gives (λ c. c) result (Ok c) }
 {
     read_cipher(alloc, bytes)
 }
@@ -179,21 +180,21 @@ fn read_block(
 
 /// The one file of a cipher that keeps to the ranges of the format.
 pub fn encode_cipher(alloc: Global, value: &Cipher) -> Result<Vec<u8>, AllocError>
-    requires { IsCipher value.now }
-    ensures { IfOk result (λ bytes. bytes.items ≡ cipher_bytes value.now) }
+    requires { IsWritable value.now }
+    ensures { IfOk result (λ bytes. CipherFile bytes.items value.now) }
 {
-    let mut out = Vec::with_capacity(alloc, file_size(value))?;
     let items = value.items.as_slice();
-    write_cipher_head(&mut out, &value.params, items.len() as u32)?;
+    let count = items.len() as u32;
+    let mut file = CipherWriter::new(alloc, &value.params, count, file_size(value))?;
     for item in items {
-        write_item(&mut out, item)?;
+        write_item(&mut file, item)?;
     }
-    Ok(out)
+    Ok(file.finish())
 }
 
 /// The bytes of the file, as far as a size can be counted.
 fn file_size(value: &Cipher) -> usize
-    requires { IsCipher value.now }
+    requires { IsWritable value.now }
 {
     let words = block_words(&value.params);
     let mut size = HEAD_SIZE;
@@ -204,18 +205,18 @@ fn file_size(value: &Cipher) -> usize
     size
 }
 
-fn write_item(out: &mut Vec<u8>, item: &Item) -> Result<(), AllocError>
-    requires name { length item.now.name ≤ 32 }
-    requires bits { item.now.bits ≤ 64 }
-    ensures { OnOk result (out.new.items ≡ out.old.items ++ item_bytes item.now) }
+fn write_item(file: &mut CipherWriter, item: &Item) -> Result<(), AllocError>
+    requires { item.now.bits ≤ 64 }
+    ensures value { OnOk result (file.new ≡ file.old ++ item_bytes item.now) }
+    ensures named { OnOk result (IsTrue (is_name item.now.name)) }
 {
-    write_name_and_form(out, &item.name, item.kind, item.bits)?;
+    file.item(&item.name, item.kind, item.bits)?;
     for block in item.blocks.as_slice() {
         let tags = Tags {
             degree: block.degree,
             noise: block.noise,
         };
-        write_block(out, block.words.as_slice(), tags)?;
+        file.block(block.words.as_slice(), tags)?;
     }
     Ok(())
 }

@@ -3,8 +3,8 @@ ghost use Rattle.rx_codec.specs.Laws.{FileLaws};
 
 use rx_net::net_laws;
 
-/// A file is read exactly where it is the file of what is read. So one value has one file, and what is decoded and
-/// encoded again gives the same bytes.
+/// A file is read exactly where it reads as what is read, and what is written reads as what was written. So what is
+/// encoded and decoded again is the same value.
 pub fn file_laws()
     ensures { FileLaws }
 {

@@ -3,7 +3,7 @@
 #![tactic(auto)]
 
 mod cipher;
-mod cipher_parts;
+mod cipher_writer;
 mod client;
 mod fault;
 mod laws;
@@ -19,12 +19,11 @@ mod shapes;
 mod writer;
 
 pub use cipher::{Cipher, Item, decode_cipher, encode_cipher};
-pub use cipher_parts::{HEAD_SIZE, item_size, write_block, write_cipher_head};
+pub use cipher_writer::{CipherWriter, HEAD_SIZE, item_size};
 pub use client::{Client, decode_client, encode_client};
 pub use fault::CodecFault;
 pub use laws::file_laws;
 pub use lists::{Blocks, Items};
-pub use named_fields::write_name_and_form;
 pub use net_file::{decode_net, encode_net};
 pub use server::{decode_server, encode_server};
 

@@ -1,5 +1,5 @@
 //! The fields that name a number and give its form, in the items of ciphertext files and in nets.
-ghost use Rattle.std.specs.Prelude.{◌≡◌, ◌≤◌, ◌⊎◌, ◌++◌, ◌&&◌, not, length, IfOk, OnOk};
+ghost use Rattle.std.specs.Prelude.{◌≡◌, ◌≤◌, ◌⊎◌, ◌++◌, ◌&&◌, not, IsTrue, IfOk, OnOk};
 ghost use Rattle.rx_text.specs.Names.{is_name};
 ghost use Rattle.rx_codec.specs.Reading.{GivesExactly, GivesExactlyAt, in_range as field_in_range};
 ghost use Rattle.rx_codec.specs.NamedFields.{named_bytes, name_size_at, form_at};
@@ -54,16 +54,16 @@ pub fn read_form(reader: &mut Reader, message_bits: u32) -> Result<(Kind, u32), 
     Ok((kind, bits))
 }
 
-/// Adds a name and a form. The bits are at most 64.
+/// Adds a name and a form. The bits are at most 64. Who writes a name knows that it is one.
 pub fn write_name_and_form(
     out: &mut Vec<u8>,
     name: &Name,
     kind: Kind,
     bits: u32,
 ) -> Result<(), AllocError>
-    requires name { length name.now ≤ 32 }
     requires bits { bits ≤ 64 }
-    ensures { OnOk result (out.new.items ≡ out.old.items ++ named_bytes name.now kind bits) }
+    ensures value { OnOk result (out.new.items ≡ out.old.items ++ named_bytes name.now kind bits) }
+    ensures named { OnOk result (IsTrue (is_name name.now)) }
 {
     let name = name.as_bytes();
     out.push(name.len() as u8)?;

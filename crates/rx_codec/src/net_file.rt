@@ -1,9 +1,9 @@
 //! The net file.
 ghost use Rattle.std.specs.Prelude.{◌≡◌, IfOk, Ok};
 ghost use Rattle.rx_net.specs.declared.net.Net.{Net};
-ghost use Rattle.rx_net.specs.Named.{IsNet};
+ghost use Rattle.rx_net.specs.Legal.{Legal};
 ghost use Rattle.rx_codec.specs.Reading.{Gives};
-ghost use Rattle.rx_codec.specs.NetFile.{NetFile, net_bytes, net_from};
+ghost use Rattle.rx_codec.specs.NetFile.{NetFile, net_from};
 
 use crate::CodecFault;
 use crate::net_reading::read_spelled;
@@ -33,17 +33,10 @@ fn read_net(alloc: Global, bytes: &[u8]) -> Result<Net, CodecFault>
     }
 }
 
-/// The one file of a legal net whose names are names.
+/// The one file of a legal net.
 pub fn encode_net(alloc: Global, value: &Net) -> Result<Vec<u8>, AllocError>
-    requires { IsNet value.now }
+    requires { Legal value.now }
     ensures { IfOk result (λ bytes. NetFile bytes.items value.now) }
-{
-    write_net(alloc, value)
-}
-
-fn write_net(alloc: Global, value: &Net) -> Result<Vec<u8>, AllocError>
-    requires { IsNet value.now }
-    ensures { IfOk result (λ bytes. bytes.items ≡ net_bytes value.now) }
 {
     let mut out = Vec::from_slice(alloc, b"RXN1")?;
     out.push(value.space as u8)?;

@@ -1,7 +1,8 @@
 //! Writing the fields of a net file, each behind the one before it.
-ghost use Rattle.std.specs.Prelude.{◌≡◌, ◌≤◌, ◌<◌, ◌^◌, ◌∷◌, ◌++◌, length, OnOk};
+ghost use Rattle.std.specs.Prelude.{◌≡◌, ◌≤◌, ◌<◌, ◌^◌, ◌∷◌, ◌++◌, length, IsTrue, OnOk};
 ghost use Rattle.std.specs.Int.{w16, w32};
 ghost use Rattle.std.specs.List.{flat_map, AllByRecursion};
+ghost use Rattle.rx_text.specs.Names.{is_name};
 ghost use Rattle.rx_net.specs.declared.net.Job.{Job};
 ghost use Rattle.rx_net.specs.declared.net.NetInput.{NetInput};
 ghost use Rattle.rx_net.specs.declared.net.NetOutput.{NetOutput};
@@ -13,12 +14,14 @@ use crate::writer::write_numbers;
 use rx_net::{Job, NetInput, NetOutput, Term};
 use std::alloc::AllocError;
 
-/// Adds the number of the inputs, and the inputs.
+/// Adds the number of the inputs, and the inputs. Their names turn out to be names.
 pub fn write_inputs(out: &mut Vec<u8>, inputs: &[NetInput]) -> Result<(), AllocError>
     requires few { length inputs.now ≤ 64 }
-    requires short { AllByRecursion (λ (i : NetInput). (length i.name ≤ 32)
-        × (i.bits ≤ 64)) inputs.now }
-    ensures { OnOk result (out.new.items ≡ out.old.items ++ list_bytes w16 input_bytes inputs.now) }
+    requires short { AllByRecursion (λ (i : NetInput). i.bits ≤ 64) inputs.now }
+    ensures value { OnOk result (out.new.items ≡ out.old.items
+        ++ list_bytes w16 input_bytes inputs.now) }
+    ensures named { OnOk result
+        (AllByRecursion (λ (i : NetInput). IsTrue (is_name i.name)) inputs.now) }
 {
     out.extend_from_slice(&(inputs.len() as u16).to_le_bytes())?;
     for input in inputs {
@@ -66,13 +69,14 @@ fn write_terms(out: &mut Vec<u8>, terms: &[Term]) -> Result<(), AllocError>
     Ok(())
 }
 
-/// Adds the number of the outputs, and the outputs.
+/// Adds the number of the outputs, and the outputs. Their names turn out to be names.
 pub fn write_outputs(out: &mut Vec<u8>, outputs: &[NetOutput]) -> Result<(), AllocError>
     requires few { length outputs.now ≤ 64 }
-    requires short { AllByRecursion (λ (o : NetOutput). (length o.name ≤ 32) × (o.bits ≤ 64))
-        outputs.now }
-    ensures { OnOk result (out.new.items ≡ out.old.items
+    requires short { AllByRecursion (λ (o : NetOutput). o.bits ≤ 64) outputs.now }
+    ensures value { OnOk result (out.new.items ≡ out.old.items
         ++ list_bytes w16 output_bytes outputs.now) }
+    ensures named { OnOk result
+        (AllByRecursion (λ (o : NetOutput). IsTrue (is_name o.name)) outputs.now) }
 {
     out.extend_from_slice(&(outputs.len() as u16).to_le_bytes())?;
     for output in outputs {

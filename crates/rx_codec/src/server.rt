@@ -3,9 +3,9 @@ ghost use Rattle.std.specs.Prelude.{◌≡◌, ◌*◌, length, IfOk, Ok};
 ghost use Rattle.rx_params.specs.Acceptance.{Accepts};
 ghost use Rattle.rx_params.specs.Derived.{key_words as key_words_of};
 ghost use Rattle.rx_boot.specs.ServerKeys.{ServerWords};
-ghost use Rattle.rx_codec.specs.Reading.{Gives};
+ghost use Rattle.rx_codec.specs.Reading.{Gives, GivesExactly};
 ghost use Rattle.rx_codec.specs.WordFields.{words_in};
-ghost use Rattle.rx_codec.specs.ServerFile.{ServerFile, server_from, key_of};
+ghost use Rattle.rx_codec.specs.ServerFile.{ServerFile, ServerRead, server_from, key_of};
 
 use crate::CodecFault;
 use crate::params_fields::{read_params, write_params};
@@ -23,22 +23,33 @@ const HEAD_SIZE: usize = 44;
 /// The server key that a file spells, or its first fault.
 pub fn decode_server(alloc: Global, bytes: &[u8]) -> Result<ServerKey, CodecFault>
     ensures exact { Gives (λ k. k) result (server_from bytes.now) }
-    ensures found { IfOk result (λ k. ServerFile bytes.now k) }
-    ensures only { (k : ServerWords) → ServerFile bytes.now k → Gives (λ k. k) result (Ok k) }
+    ensures found { IfOk result (λ k. ServerRead bytes.now k) }
+    ensures only { (k : ServerWords) → ServerRead bytes.now k → Gives (λ k. k) result (Ok k) }
 {
     read_server(alloc, bytes)
 }
 
-/// The file is read to its end before memory is taken for the words.
-#[tactic(auto, unfolding(crate::specs::ServerFile::server_from, crate::specs::WordFields::words_at))]
 fn read_server(alloc: Global, bytes: &[u8]) -> Result<ServerKey, CodecFault>
     ensures { Gives (λ k. k) result (server_from bytes.now) }
+{
+    let (params, words) = read_fields(bytes)?;
+    Ok(key_in(alloc, &params, words)?)
+}
+
+/// The set of a file and the bytes of its words, or its first fault. The file is read to its end, and no memory is
+/// taken.
+#[tactic(auto, unfolding(crate::specs::ServerFile::server_from, crate::specs::WordFields::words_at))]
+fn read_fields(bytes: &[u8]) -> Result<(Params, &[u8]), CodecFault>
+    ensures value { GivesExactly (λ f. key_of f.0 (words_in (key_words_of f.0) f.1.now)) result
+        (server_from bytes.now) }
+    ensures accepted { IfOk result (λ f. Accepts f.0) }
+    ensures size { IfOk result (λ f. length f.1.now ≡ 8 * key_words_of f.0) }
 {
     let mut reader = Reader::after_magic(bytes, b"RXS1")?;
     let params = read_params(&mut reader)?;
     let words = reader.bytes(8 * key_words(&params))?;
     reader.end()?;
-    Ok(key_in(alloc, &params, words)?)
+    Ok((params, words))
 }
 
 /// The key of a set whose words these bytes are: each list is made from its own part of them.

@@ -14,7 +14,7 @@ use Rattle.rx_block.specs.declared.block.Block.{Block}
 use Rattle.rx_block.specs.Outputs.{output_blocks}
 use Rattle.rx_codec.specs.declared.cipher.Item.{Item}
 use Rattle.rx_codec.specs.declared.cipher.Cipher.{Cipher}
-use Rattle.rx_codec.specs.CipherFile.{CipherFile, IsCipher, cipher_bytes}
+use Rattle.rx_codec.specs.CipherFile.{CipherFile, IsCipher}
 use Rattle.rx_codec.specs.ServerFile.{ServerRead, server_from}
 use Rattle.rx_codec.specs.NetFile.{NetFile, net_from}
 use Rattle.rx_crew.specs.Evaluation.{evaluated, AreInputs}
@@ -86,11 +86,6 @@ outputs_made k net p inputs made blocks os items set outputs run same of_cells =
     let all : items ≡ map (output_item cells) net.outputs = of_cells cells are ∙ ap (map (output_item cells)) outputs in
     let of : Params → List Item → Cipher = λ q xs. record { params = q; items = xs } in
     ap (λ q. of q items) set ∙ ap (of k.params) all
-
--- the file that is written is that of the evaluation
-pub file_of : (bytes : List ℕ) (made outputs : Cipher) → made ≡ outputs → IsCipher made → bytes ≡ cipher_bytes made → CipherFile bytes outputs
-file_of bytes made outputs same fits spelled =
-    subst (CipherFile bytes) same (record { fits = fits; spelled = spelled })
 
 -- ---- a run over its files
 

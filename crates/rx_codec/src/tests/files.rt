@@ -66,6 +66,11 @@ fn twice_file(alloc: Global) -> Result<Vec<u8>, AllocError> {
     Ok(file)
 }
 
+/// Adds the name and the form of a bit, which differ for each number below 64.
+pub(crate) fn add_bit(file: &mut Vec<u8>, number: u8) -> Result<(), AllocError> {
+    file.extend_from_slice(&[2, b'a' + number / 16, b'a' + number % 16, 1, 1])
+}
+
 /// A file with these values at their places. One past its end is passed over.
 pub(crate) fn changed(
     alloc: Global,
@@ -186,6 +191,20 @@ fn no_items(rt: HostRuntime) -> Result<(), Fail> {
         encode_cipher(rt.alloc(), &cipher)?.as_slice(),
         file.as_slice()
     );
+    Ok(())
+}
+
+#[test]
+fn as_many_items_as_may_be(rt: HostRuntime) -> Result<(), Fail> {
+    let mut file = cipher_head(rt.alloc(), 64)?;
+    for number in 0..64 {
+        add_bit(&mut file, number)?;
+        add_block(&mut file, 1, number)?;
+    }
+    let cipher = decode_cipher(rt.alloc(), file.as_slice())?;
+    assert_eq!(rt; cipher.items.as_slice().len(), 64);
+    let again = encode_cipher(rt.alloc(), &cipher)?;
+    assert!(rt; again.as_slice() == file.as_slice());
     Ok(())
 }
 

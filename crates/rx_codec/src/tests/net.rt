@@ -1,7 +1,9 @@
 //! Net files, byte by byte.
-use crate::tests::files::changed;
+use crate::tests::files::{add_bit, changed};
 use crate::{CodecFault, decode_net, encode_net};
-use rx_net::{NetFault, NetInput, NetPen};
+use rx_net::{
+    Cells, Jobs, Net, NetFault, NetInput, NetInputs, NetOutput, NetOutputs, NetPen, legal,
+};
 use rx_params::{Kind, Name};
 use std::alloc::{AllocError, Global};
 use std::test::Fail;
@@ -57,6 +59,96 @@ fn a_net_of_a_pen(rt: HostRuntime) -> Result<(), Fail> {
         format!(in alloc; "{again:?}")?,
         format!(in alloc; "{net:?}")?
     );
+    Ok(())
+}
+
+/// The net of `SAME` as a value of its own parts.
+fn same_by_hand(alloc: Global, a: Name) -> Result<Net, Fail> {
+    let mut inputs = Vec::new(alloc);
+    inputs.push(NetInput {
+        name: a,
+        kind: Kind::Int,
+        bits: 2,
+        degree: 3,
+        noise: 1,
+    })?;
+    let mut outputs = Vec::new(alloc);
+    outputs.push(NetOutput {
+        name: a,
+        kind: Kind::Int,
+        bits: 2,
+        cells: Cells::from_vec(Vec::from_slice(alloc, &[0])?),
+    })?;
+    Ok(Net {
+        space: 2,
+        inputs: NetInputs::from_vec(inputs),
+        jobs: Jobs::from_vec(Vec::new(alloc)),
+        outputs: NetOutputs::from_vec(outputs),
+    })
+}
+
+#[test]
+fn a_net_by_hand(rt: HostRuntime) -> Result<(), Fail> {
+    let alloc = rt.alloc();
+    let Some(a) = Name::of(b"a") else {
+        panic!(rt; "a name");
+    };
+    let net = same_by_hand(alloc, a)?;
+    assert!(rt; legal(&net).is_ok());
+    let file = encode_net(alloc, &net)?;
+    assert_eq!(rt; file.as_slice(), &SAME[..]);
+    let again = decode_net(alloc, file.as_slice())?;
+    assert_eq!(rt;
+        format!(in alloc; "{again:?}")?,
+        format!(in alloc; "{net:?}")?
+    );
+    Ok(())
+}
+
+/// Adds a job of 16 terms, of which as many weigh 1 as may, and so many jobs of no terms.
+fn add_jobs(file: &mut Vec<u8>, others: u32) -> Result<(), AllocError> {
+    file.push(16)?;
+    for cell in 0..16 {
+        file.extend_from_slice(&[cell, 0, 0, 0, u8::from(cell < 5)])?;
+    }
+    file.extend_from_slice(&[0; 19])?;
+    for _ in 0..others {
+        file.extend_from_slice(&[0; 20])?;
+    }
+    Ok(())
+}
+
+/// A net of 64 inputs, 65,536 jobs and 64 outputs, which are its inputs.
+fn greatest_net(alloc: Global) -> Result<Vec<u8>, AllocError> {
+    let mut file = Vec::from_slice(alloc, b"RXN1\x02\x40\x00")?;
+    for i in 0..64 {
+        add_bit(&mut file, i)?;
+        file.extend_from_slice(&[1, 1])?;
+    }
+    file.extend_from_slice(&[0, 0, 1, 0])?;
+    add_jobs(&mut file, 65_535)?;
+    file.extend_from_slice(&[64, 0])?;
+    for i in 0..64 {
+        add_bit(&mut file, i)?;
+        file.extend_from_slice(&[i, 0, 0, 0])?;
+    }
+    Ok(file)
+}
+
+#[test]
+fn the_greatest_net(rt: HostRuntime) -> Result<(), Fail> {
+    let file = greatest_net(rt.alloc())?;
+    let net = decode_net(rt.alloc(), file.as_slice())?;
+    assert_eq!(rt; net.inputs.as_slice().len(), 64);
+    assert_eq!(rt; net.outputs.as_slice().len(), 64);
+    let jobs = net.jobs.as_slice();
+    assert_eq!(rt; jobs.len(), 65_536);
+    assert_eq!(rt;
+        jobs.first().map(|job| job.terms.as_slice().len()),
+        Some(16)
+    );
+    let again = encode_net(rt.alloc(), &net)?;
+    assert!(rt; again.as_slice() == file.as_slice());
     Ok(())
 }
 

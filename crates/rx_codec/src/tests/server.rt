@@ -14,6 +14,23 @@ fn server_head(alloc: Global) -> Result<Vec<u8>, AllocError> {
     Ok(file)
 }
 
+/// A file of 100 bytes, whose set has a key of 16,776,192 words: 2^24 less 1,024.
+static PROMISE: [u8; 100] = [
+    b'R', b'X', b'S', b'1', 2, 0, 0, 0, 4, 0, 0, 0, 0, 4, 0, 0, 41, 0, 0, 0, 4, 0, 0, 0, 15, 0, 0,
+    0, 4, 0, 0, 0, 6, 0, 0, 0, 0, 0, 0, 0, 0, 0, 0, 0, 0, 0, 0, 0, 0, 0, 0, 0, 0, 0, 0, 0, 0, 0, 0,
+    0, 0, 0, 0, 0, 0, 0, 0, 0, 0, 0, 0, 0, 0, 0, 0, 0, 0, 0, 0, 0, 0, 0, 0, 0, 0, 0, 0, 0, 0, 0, 0,
+    0, 0, 0, 0, 0, 0, 0, 0, 0,
+];
+
+#[test]
+fn a_key_that_is_promised(rt: HostRuntime) {
+    let fault = CodecFault::Short {
+        need: 134_209_580,
+        have: 100,
+    };
+    assert_eq!(rt; decode_server(rt.alloc(), &PROMISE).err(), Some(fault));
+}
+
 /// A file whose words have bytes that go round from 0 to 250.
 fn server_file(alloc: Global) -> Result<Vec<u8>, AllocError> {
     let mut file = server_head(alloc)?;

@@ -2,7 +2,7 @@
 ghost use Rattle.std.specs.Prelude.{◌≡◌, IfOk, length};
 ghost use Rattle.rx_net.specs.Cells.{input_cells};
 ghost use Rattle.rx_net.specs.Named.{IsNet};
-ghost use Rattle.rx_codec.specs.CipherFile.{IsCipher};
+ghost use Rattle.rx_codec.specs.CipherFile.{IsWritable};
 ghost use Rattle.rx_crew.specs.Noise.{KeepsCells};
 ghost use Rattle.rx_server.specs.Laws.{AreCellBlocks};
 ghost use Rattle.rx_tool.specs.Refusals.{IsWithinLimits};
@@ -43,7 +43,7 @@ pub fn evaluate<R: Threads + Sync, G: Gate + Sync>(
         (input_cells net.now.space net.now.inputs) inputs.now }
     requires limits { IsWithinLimits key.now.params workers (length net.now.jobs) }
     ensures outputs { IfOk result (λ made. made.outputs ≡ evaluation key.now net.now inputs.now) }
-    ensures fits { IfOk result (λ made. IsCipher made.outputs) }
+    ensures writable { IfOk result (λ made. IsWritable made.outputs) }
     ensures jobs { IfOk result (λ made. made.jobs ≡ length net.now.jobs) }
     ensures keeps { IfOk result (λ _. KeepsCells key.now net.now inputs.now) }
 {

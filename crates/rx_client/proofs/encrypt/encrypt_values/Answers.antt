@@ -1,7 +1,5 @@
-use Rattle.std.proofs.Common.{ℕ, List, ◌++◌, ap, ◌∙◌}
-use Rattle.rx_codec.specs.CipherFile.{cipher_bytes}
-use Rattle.rx_client.specs.Encrypt.{encrypted_values}
-use Rattle.rx_client.proofs.Encrypted.{values_fit, values_keep}
+use Rattle.std.proofs.Common.{◌∙◌}
+use Rattle.rx_client.proofs.Encrypted.{values_fit, values_keep, values_spelled}
 use Rattle.rx_client.proofs.LineDigits.{values_kept}
 use Rattle.rx_client.proofs.encrypt.encrypt_values.Goals as goal
 
@@ -9,9 +7,8 @@ pub returns-clause-file : goal.returns-clause-file
 returns-clause-file c = record {
   fits = values_fit c.args.p.now c.args.key.now c.args.mask_seed.now c.args.noise_seed.now c.args.lines.now
       c.requires.accepted c.requires.key c.requires.values c.requires.widths;
-  spelled = c.in_ok-write_file.ensures
-      ∙ ap (λ (text : List ℕ). text ++ cipher_bytes (encrypted_values c.args.p.now c.args.key.now c.args.mask_seed.now c.args.noise_seed.now c.args.lines.now))
-      c.in_ok-file.ensures.items;
+  spelled = values_spelled c.args.p.now c.args.key.now c.args.mask_seed.now c.args.noise_seed.now c.args.lines.now _ _
+      c.in_ok-file.ensures (c.finish.ensures ∙ c.in_ok-write_items.ensures);
 }
 
 pub returns-clause-keeps : goal.returns-clause-keeps

@@ -9,6 +9,6 @@ loop-i-preserved c =
     let p = c.args.p.now in
     let line = c.args.line.now in
     blocks_to-more p c.args.key.now c.args.mask_seed.now c.args.noise_seed.now c.args.number line c.loop-i.i
-    c.args.file.now.items (named_bytes line.name line.kind line.bits) c.loop-i.file.items c.write_block.new.out.items _ c.loop-i.invariant c.in_ok-write_block.ensures
+    c.args.file.now (named_bytes line.name line.kind line.bits) c.loop-i.file c.block.new.self _ c.loop-i.invariant c.in_ok-block.ensures
     (ap (λ x. fresh p c.args.key.now c.args.mask_seed.now c.args.noise_seed.now (c.args.number + c.loop-i.i) line.kind x) (sym c.digit_at-digit.ensures)
     ∙ c.fresh_words_into-tags.ensures)

@@ -6,5 +6,5 @@ use Rattle.rx_codec.proofs.cipher.write_item.Given as goal
 
 abbrev pub invariant-loop-block : goal.invariant-loop-block
 invariant-loop-block l =
-    l.out.items
-    ≡ l.fn.out.items ++ named_bytes l.item.name l.item.kind l.item.bits ++ flat_map block_bytes (take l.block-index l.item.blocks)
+    l.file
+    ≡ l.fn.file ++ named_bytes l.item.name l.item.kind l.item.bits ++ flat_map block_bytes (take l.block-index l.item.blocks)

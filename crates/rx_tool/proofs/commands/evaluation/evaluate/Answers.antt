@@ -1,6 +1,7 @@
 use Rattle.std.proofs.Common.{subst, sym}
 use Rattle.rx_params.specs.Acceptance.{Accepts}
-use Rattle.rx_codec.specs.CipherFile.{IsCipher}
+use Rattle.rx_codec.specs.CipherFile.{IsWritable}
+use Rattle.rx_codec.proofs.Ciphers.{writable}
 use Rattle.rx_tool.proofs.EvaluatedBlocks.{are_inputs}
 use Rattle.rx_tool.proofs.NetRuns.{outputs_fit, outputs_made}
 use Rattle.rx_tool.proofs.commands.evaluation.evaluate.Goals as goal
@@ -14,8 +15,8 @@ returns-clause-outputs g c =
     c.as_slice.result.now c.in_ok-items.items c.params.ensures.value c.as_slice.ensures c.in_ok-report.ensures.outputs c.from_vec-outputs.ensures
     c.in_ok-items.ensures.of_cells
 
-pub returns-clause-fits : goal.returns-clause-fits
-returns-clause-fits g c =
-    subst IsCipher (sym (returns-clause-outputs g c))
-    (outputs_fit c.args.key.now c.args.net.now c.args.inputs.now c.server_laws.ensures (subst Accepts c.params.ensures.value c.params.ensures.accepted)
-    c.requires.space c.requires.net c.requires.inputs)
+pub returns-clause-writable : goal.returns-clause-writable
+returns-clause-writable g c =
+    subst IsWritable (sym (returns-clause-outputs g c))
+    (writable _ (outputs_fit c.args.key.now c.args.net.now c.args.inputs.now c.server_laws.ensures (subst Accepts c.params.ensures.value c.params.ensures.accepted)
+    c.requires.space c.requires.net c.requires.inputs))

@@ -1,9 +1,10 @@
-use Rattle.std.proofs.Common.{◌∙◌, ap, take, drop, length, string_bytes}
+use Rattle.std.proofs.Common.{◌∙◌, ap, subst, take, drop, length, string_bytes}
 use Rattle.std.specs.Prelude.{◌-◌}
+use Rattle.rx_codec.specs.CipherFile.{CipherFile}
 use Rattle.rx_tool.specs.Run.{input_blocks, jobs_line}
 use Rattle.rx_tool.specs.Words.{texts}
 use Rattle.rx_tool.proofs.RunInputs.{values_fit}
-use Rattle.rx_tool.proofs.NetRuns.{two_files, count_is, inputs_fit, stopped_by_values, refusal_is, run_does, file_of}
+use Rattle.rx_tool.proofs.NetRuns.{two_files, count_is, inputs_fit, stopped_by_values, refusal_is, run_does}
 use Rattle.rx_tool.proofs.commands.run.run_net_files.Goals as goal
 
 pub checked_inputs-requires-clause-count : goal.checked_inputs-requires-clause-count
@@ -46,6 +47,6 @@ returns g c =
           (inputs_fit c.in-Ok.key c.in-Ok-decode_net.legal c.args.workers c.params-set.result.now ciphers c.deref.result.now c.in-Ok-checked_inputs.blocks.items
           c.deref-2.result.now c.server_laws.ensures (values_fit rest ciphers c.in-Ok-read_ciphers.ensures.1.1)
           c.params-set.ensures.value c.deref.ensures.value c.in-Ok-checked_inputs.ensures.1.0 c.in-Ok-checked_inputs.ensures.1.1 c.deref-2.ensures.value)
-          (file_of c.in_ok-bytes.bytes.items c.in_ok-made.made.outputs _ c.in_ok-made.ensures.outputs c.in_ok-made.ensures.fits c.in_ok-bytes.ensures)
+          (subst (CipherFile c.in_ok-bytes.bytes.items) c.in_ok-made.ensures.outputs c.in_ok-bytes.ensures)
           c.in_ok-made.ensures.keeps c.in_ok-done.ensures.writes (c.in_ok-lines.ensures ∙ ap jobs_line c.in_ok-made.ensures.jobs),
     )
