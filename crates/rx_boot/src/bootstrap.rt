@@ -30,15 +30,15 @@ pub fn bootstrap_into(
     ensures looks_up { LooksUp key.now table.now input.now out.new }
     ensures room_stays { scratch.new ≡ key.now.params }
 {
-    let p = key.params();
+    let p = &key.params;
     let switched = scratch.switched.as_mut_slice();
     let away = scratch.away.as_mut_slice();
     let turning = scratch.turning.as_mut_slice();
-    switch_into(key.switch(), input, switched);
+    switch_into(&key.switch, input, switched);
     rotate(
         &mut scratch.product,
         p,
-        key.boot().words(),
+        key.boot.words(),
         table,
         switched,
         away,

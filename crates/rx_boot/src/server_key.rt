@@ -19,9 +19,12 @@ use std::marker::Model;
 /// see the set and the two lists of words.
 #[derive(Drop)]
 pub struct ServerKey {
-    params: Params,
-    boot: BootKey,
-    switch: SwitchKey,
+    /// The set, which is accepted.
+    pub params: Params,
+    /// The bootstrapping rows.
+    pub boot: BootKey,
+    /// The switch rows.
+    pub switch: SwitchKey,
 }
 
 impl Model for ServerKey {
@@ -80,44 +83,11 @@ impl ServerKey {
         let (boot, switch) = words.split_at(boot_words(p));
         let boot = Words::from_vec(boot.to_vec(alloc)?);
         let switch = Words::from_vec(switch.to_vec(alloc)?);
-        Ok(ServerKey::from_parts(p, boot, switch))
-    }
-
-    /// The server key of a set with these two lists of words, of the same counts, without a copy.
-    pub fn from_parts(p: &Params, boot: Words, switch: Words) -> ServerKey
-        requires accepted { Accepts p.now }
-        requires boot { length boot ≡ boot_size p.now }
-        requires switch { length switch ≡ switch_size p.now }
-        ensures { result ≡ record { params = p.now; boot = boot; switch = switch } }
-    {
-        ServerKey {
+        Ok(ServerKey {
             params: *p,
             boot: BootKey::from_words(boot),
             switch: SwitchKey::of_words(p, switch),
-        }
-    }
-
-    /// The set, which is accepted.
-    pub fn params(&self) -> &Params
-        ensures value { result.now ≡ self.now.params }
-        ensures accepted { Accepts result.now }
-    {
-        &self.params
-    }
-
-    /// The bootstrapping rows.
-    pub fn boot(&self) -> &BootKey
-        ensures value { result.now ≡ self.now.boot }
-        ensures size { length result.now ≡ boot_size self.now.params }
-    {
-        &self.boot
-    }
-
-    /// The switch rows.
-    pub fn switch(&self) -> &SwitchKey
-        ensures { result.now ≡ switch_key self.now.params self.now.switch }
-    {
-        &self.switch
+        })
     }
 }
 

@@ -18,16 +18,16 @@ fn a_made_key_is_read_again(rt: HostRuntime) -> Result<(), Fail> {
         panic!(rt; "a set of that name");
     };
     let key = ServerKey::make(rt.alloc(), &p, &[7; 32], &[8; 32])?;
-    let boot = key.boot().words();
-    let switch = key.switch().words();
+    let boot = key.boot.words();
+    let switch = key.switch.words();
     assert_eq!(rt; boot.len(), 16_384);
     assert_eq!(rt; switch.len(), 13_824);
     let mut words = Vec::new(rt.alloc());
     words.extend_from_slice(boot)?;
     words.extend_from_slice(switch)?;
-    let again = ServerKey::of_words(rt.alloc(), key.params(), &words)?;
-    assert_eq!(rt; again.boot().words(), boot);
-    assert_eq!(rt; again.switch().words(), switch);
+    let again = ServerKey::of_words(rt.alloc(), &key.params, &words)?;
+    assert_eq!(rt; again.boot.words(), boot);
+    assert_eq!(rt; again.switch.words(), switch);
     Ok(())
 }
 
@@ -37,8 +37,8 @@ fn a_number_is_looked_up(rt: HostRuntime) -> Result<(), Fail> {
         panic!(rt; "a set of that name");
     };
     let key = ServerKey::make(rt.alloc(), &p, &[7; 32], &[8; 32])?;
-    assert_eq!(rt; key.params().message_bits, 2);
-    let large = SecretKey::large(rt.alloc(), key.params(), &[7; 32])?;
+    assert_eq!(rt; key.params.message_bits, 2);
+    let large = SecretKey::large(rt.alloc(), &key.params, &[7; 32])?;
     assert_eq!(rt; looked_up(&rt, &key, &large, &NEXT, 3)?, 4);
     assert_eq!(rt; looked_up(&rt, &key, &large, &SAME, 0)?, 0);
     assert_eq!(rt; looked_up(&rt, &key, &large, &SAME, 15)?, 15);
@@ -63,7 +63,7 @@ fn looked_up(
     let mut input = vec![in rt.alloc(); 0; large.bits().len() + 1]?;
     let message = u64::from(number) * unit(2);
     encrypt_into(large, &mut mask, &mut noise, 17, message, &mut input);
-    let mut scratch = BootScratch::new(rt.alloc(), key.params())?;
+    let mut scratch = BootScratch::new(rt.alloc(), &key.params)?;
     let mut output = vec![in rt.alloc(); 0; large.bits().len() + 1]?;
     bootstrap_into(&mut scratch, key, table, &input, &mut output);
     Ok(decode(phase(large, &output), 2))

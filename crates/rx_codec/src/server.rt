@@ -12,7 +12,8 @@ use crate::params_fields::{read_params, write_params};
 use crate::reader::{Reader, words_of};
 use crate::shapes::key_words;
 use crate::writer::write_words;
-use rx_boot::{ServerKey, boot_words, switch_words};
+use rx_boot::{BootKey, ServerKey, boot_words, switch_words};
+use rx_lwe::SwitchKey;
 use rx_params::Params;
 use rx_torus::Words;
 use std::alloc::{AllocError, Global};
@@ -62,20 +63,23 @@ fn key_in(alloc: Global, p: &Params, bytes: &[u8]) -> Result<ServerKey, AllocErr
     let (boot, switch) = bytes.split_at(8 * count);
     let boot = Words::from_vec(words_of(alloc, count, boot)?);
     let switch = Words::from_vec(words_of(alloc, switch_words(p), switch)?);
-    Ok(ServerKey::from_parts(p, boot, switch))
+    Ok(ServerKey {
+        params: *p,
+        boot: BootKey::from_words(boot),
+        switch: SwitchKey::of_words(p, switch),
+    })
 }
 
 /// The one file of a server key: 44 bytes, and eight more for each word of the key.
 pub fn encode_server(alloc: Global, value: &ServerKey) -> Result<Vec<u8>, AllocError>
     ensures file { IfOk result (λ bytes. ServerFile bytes.items value.now) }
 {
-    let params = value.params();
-    let boot = value.boot().words();
-    let switch = value.switch().words();
+    let boot = value.boot.words();
+    let switch = value.switch.words();
     let size = HEAD_SIZE + 8 * (boot.len() + switch.len());
     let mut out = Vec::with_capacity(alloc, size)?;
     out.extend_from_slice(b"RXS1")?;
-    write_params(&mut out, params)?;
+    write_params(&mut out, &value.params)?;
     write_words(&mut out, boot)?;
     write_words(&mut out, switch)?;
     Ok(out)

@@ -1,5 +1,5 @@
 -- A worked evaluation, computed by the definitions.
-use Rattle.std.proofs.Common.{◌≡◌, ◌*◌, ◌^◌, ℕ, ℤ, pos, negsuc, List, [], ◌∷◌, ◌++◌, refl, replicate, length}
+use Rattle.std.proofs.Common.{◌≡◌, ◌*◌, ◌^◌, ℕ, ℤ, pos, negsuc, List, [], ◌∷◌, ◌++◌, refl, replicate}
 use Rattle.rx_laws.specs.Sum.{sum_to}
 use Rattle.rx_laws.specs.Torus.{word}
 use Rattle.rx_laws.specs.Digits.{rests, digit}
@@ -23,7 +23,8 @@ use Rattle.rx_crew.specs.Kernel.{key_basis, basis_key, job_words}
 use Rattle.rx_net.specs.Cells.{job_value, values_after, value}
 use Rattle.rx_crew.specs.Noise.{output_values}
 use Rattle.rx_block.specs.Outputs.{output_blocks}
-use Rattle.rx_crew.specs.Evaluation.{evaluated, zero_block, board_words, board_limit}
+use Rattle.rx_crew.specs.Evaluation.{evaluated, zero_block}
+use Rattle.rx_crew.specs.Board.{board_words, board_limit}
 
 -- ---- A toy: polynomials of 8 coefficients, one bit in the small key, one message bit. A table has 4 numbers, and the phase of 1 is
 -- 2 ^ 61. The key encrypts the bit 1 without masks and noise, and the first word of a mask counts for 2 ^ 61.
@@ -75,8 +76,8 @@ zero : zero_block toy ≡ record { words = replicate 9 0; degree = 0; noise = 0 
 unfolding large_dim
 zero = refl
 
--- three jobs of 257 words, a state and a count each; a net without jobs has one word
-boards : (board_words rx_test (length net.jobs) ≡ 778) × (board_words rx_test 0 ≡ 1) × (board_limit ≡ 33554432)
+-- three jobs of 257 words, a state and a count each; the board of no jobs has one word
+boards : (board_words rx_test 3 ≡ 778) × (board_words rx_test 0 ≡ 1) × (board_limit ≡ 33554432)
 unfolding large_dim
 boards = (refl, refl, refl)
 

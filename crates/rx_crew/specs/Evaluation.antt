@@ -1,5 +1,5 @@
 -- The evaluation of a net under a server key.
-use Rattle.std.specs.Prelude.{ℕ, ◌+◌, ◌*◌, ◌^◌, ◌≡◌, ◌<◌, ◌≤◌, List, [], ◌∷◌, ◌++◌, length, map, get_or, drop, replicate, EachIndex, slice_index}
+use Rattle.std.specs.Prelude.{ℕ, ◌+◌, ◌^◌, ◌≡◌, ◌<◌, ◌≤◌, List, [], ◌∷◌, ◌++◌, length, map, get_or, drop, replicate, EachIndex, slice_index}
 use Rattle.rx_params.specs.declared.params.Params.{Params}
 use Rattle.rx_params.specs.Derived.{large_dim}
 use Rattle.rx_net.specs.declared.net.Job.{Job}
@@ -46,10 +46,3 @@ pub record AreInputs (p : Params) (net : Net) (inputs : List Block) : Type 0 whe
 -- each word of the blocks is a word of the torus
 abbrev pub AreWordsOf : List Block → Type 0
 AreWordsOf blocks = (c : ℕ) → c < length blocks → let b : Block = get_or blocks c no_block in EachIndex b.words (λ i. slice_index b.words i < 2 ^ 64)
-
--- the words of a board of so many jobs: one, and for each job its words, its state and its count
-abbrev pub board_words : Params → ℕ → ℕ
-board_words p jobs = 1 + jobs * (large_dim p + 3)
-
-abbrev pub board_limit : ℕ
-board_limit = 2 ^ 25

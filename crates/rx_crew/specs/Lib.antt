@@ -1,4 +1,5 @@
 pub mod Kernel
+pub mod Board
 pub mod Evaluation
 pub mod Noise
 pub mod Laws

@@ -34,7 +34,7 @@ pub(crate) fn run_jobs(
     ensures sizes { AreBlocksOf key.now.params cells.new }
 {
     // Who reads the rows knows how many they are.
-    let _rows = key.boot();
+    let _ = &key.boot;
     for (number, job) in net.jobs.as_slice().iter().enumerate() {
         run_job(scratch, key, job, inputs + number, sum, cells);
     }
@@ -62,7 +62,7 @@ fn run_job(
 {
     let (earlier, later) = cells.split_at_mut(place);
     mix_into(
-        key.params(),
+        &key.params,
         earlier,
         job.terms.as_slice(),
         job.constant,

@@ -32,6 +32,6 @@ pub(crate) fn cells_keep(key: &ServerKey, net: &Net, inputs: &[Block])
     ensures { KeepsCells key.now net.now inputs.now }
 {
     keeping_laws();
-    let _set = key.params();
-    let _rows = key.boot();
+    // Who reads a field of the key knows that its set is accepted, and how many rows it has.
+    let _ = &key.params;
 }

@@ -3,12 +3,14 @@
 #![tactic(auto)]
 
 mod blocks;
+mod board;
 mod gate;
 mod jobs;
 mod kernel;
 mod laws;
 mod run;
 
+pub use board::{MOST_BOARD_WORDS, MOST_WORKERS, board_words};
 pub use gate::{Gate, OpenGate};
 pub use kernel::FheKernel;
 pub use laws::{evaluation_laws, keeping_laws};

@@ -4,7 +4,8 @@ ghost use Rattle.rx_params.specs.Derived.{large_dim};
 ghost use Rattle.rx_net.specs.Legal.{Legal};
 ghost use Rattle.rx_block.specs.Combine.{AreBlocksOf};
 ghost use Rattle.rx_block.specs.Outputs.{numbers_of, output_blocks};
-ghost use Rattle.rx_crew.specs.Evaluation.{evaluated, AreInputs, AreWordsOf, board_words, board_limit};
+ghost use Rattle.rx_crew.specs.Board.{board_words, board_limit, worker_limit};
+ghost use Rattle.rx_crew.specs.Evaluation.{evaluated, AreInputs, AreWordsOf};
 ghost use Rattle.rx_crew.specs.Noise.{KeepsCells, KeepsOutputs};
 
 use crate::Gate;
@@ -46,7 +47,7 @@ pub fn run_net<R: Threads + Sync, G: Gate + Sync>(
     requires space { net.now.space ≡ key.now.params.message_bits }
     requires inputs { AreInputs key.now.params net.now inputs.now }
     requires workers_low { 1 ≤ workers }
-    requires workers_high { workers ≤ 64 }
+    requires workers_high { workers ≤ worker_limit }
     requires board { board_words key.now.params (length net.now.jobs) ≤ board_limit }
     ensures outputs { IfOk result (λ report.
         report.outputs.items ≡ output_blocks (evaluated key.now net.now inputs.now)
@@ -59,7 +60,7 @@ pub fn run_net<R: Threads + Sync, G: Gate + Sync>(
         KeepsOutputs key.now net.now inputs.now report.outputs.items) }
 {
     cells_keep(key, net, inputs);
-    let p = key.params();
+    let p = &key.params;
     let jobs = net.jobs.as_slice().len();
     let size = p.large_dim() as usize + 1;
     let numbers = output_cells(alloc, net.outputs.as_slice())?;
@@ -122,7 +123,7 @@ fn evaluate(
     ensures sizes { AreBlocksOf key.now.params outputs.new }
     ensures words { AreWordsOf outputs.new }
 {
-    let p = key.params();
+    let p = &key.params;
     copy_blocks(p, inputs, cells);
     run_jobs(scratch, key, net, inputs.len(), sum, cells);
     copy_numbered(p, cells, numbers, outputs);

@@ -3,10 +3,8 @@ ghost use Rattle.std.specs.Prelude.{◌≡◌, ℕ, pos, ◌+◌, ◌*◌, ◌<�
 ghost use Rattle.rx_params.specs.Acceptance.{FieldsInRange};
 ghost use Rattle.rx_glwe.specs.Levels.{AreLevels};
 
-use rx_params::Params;
+use rx_params::{MOST_LEVELS, Params};
 use rx_torus::digits;
-
-const MOST_LEVELS: usize = 30;
 
 /// Writes the digits of the words of a polynomial: for each of `pbs_level` levels, the highest first, the
 /// polynomial of the digits of that level.
@@ -16,7 +14,7 @@ pub(crate) fn write_digits(p: &Params, words: &[u64], out: &mut [i64])
     requires room { length out.old ≡ p.now.pbs_level * p.now.poly_size }
     ensures { AreLevels p.now (p.now.poly_size) words.now out.new }
 {
-    let mut all = [0i64; MOST_LEVELS];
+    let mut all = [0i64; MOST_LEVELS as usize];
     let of_word = &mut all[..p.pbs_level as usize];
     for (x, word) in words.iter().enumerate() {
         digits(*word, p.pbs_base_log, p.pbs_level, of_word);

@@ -10,12 +10,10 @@ ghost use Rattle.rx_lwe.specs.SwitchKeys.{IsSized, switch_key, switch_key_words,
 
 use crate::made_rows::made_words;
 use crate::{SecretKey, add_scaled};
-use rx_params::Params;
+use rx_params::{MOST_LEVELS, Params};
 use rx_torus::{Words, digits};
 use std::alloc::{AllocError, Global};
 use std::marker::Model;
-
-const MOST_LEVELS: usize = 30;
 
 /// A key that switches ciphertexts from the large key to the small one. For each bit of the large key and
 /// each level of the digits, the highest first, it has a row of words, which hide that bit, times the weight
@@ -154,7 +152,7 @@ impl SwitchKey {
             digit self.now.base_log self.now.levels word t *ℤ switch_rows self.now u t i))
             out.new }
     {
-        let mut places = [0; MOST_LEVELS];
+        let mut places = [0; MOST_LEVELS as usize];
         let used = &mut places[..self.levels as usize];
         digits(word, self.base_log, self.levels, used);
         self.subtract_rows(u, used, out);

@@ -42,6 +42,9 @@ pub enum Refused {
     Noise { left: u128, right: u128 },
 }
 
+/// The most levels that a word may have digits of, in a bootstrap and in a switch of keys.
+pub const MOST_LEVELS: u32 = 30;
+
 /// The most words of a server key: 2^24.
 const MOST_KEY_WORDS: u64 = 0x100_0000;
 
@@ -128,7 +131,7 @@ fn is_poly_size(n: u32) -> bool
 fn are_digits(base_log: u32, level: u32) -> bool
     ensures { result ≡ (is_within 1 30 level && nat_le (base_log * level) 60) }
 {
-    is_within(1, 30, level) && base_log.saturating_mul(level) <= 60
+    is_within(1, MOST_LEVELS, level) && base_log.saturating_mul(level) <= 60
 }
 
 /// Refuses a set whose server key has too many words.

@@ -8,7 +8,7 @@ mod params;
 mod space;
 mod text;
 
-pub use bounds::{Bounds, Refused, check};
+pub use bounds::{Bounds, MOST_LEVELS, Refused, check};
 pub use kind::Kind;
 pub use params::{Params, named};
 pub use rx_text::{LineCause, LineFault, Name};

@@ -107,7 +107,7 @@ fn two_jobs_are_run(rt: HostRuntime) -> Result<(), Fail> {
         panic!(rt; "a set of that name");
     };
     let key = ServerKey::make(alloc, &set, &SEED, &[8; 32])?;
-    let p = key.params();
+    let p = &key.params;
     assert_eq!(rt; p.message_bits, 2);
     let secret = SecretKey::large(alloc, p, &SEED)?;
     assert_eq!(rt; secret.bits().len(), 256);
@@ -134,7 +134,7 @@ fn nothing_is_run(rt: HostRuntime) -> Result<(), Fail> {
         panic!(rt; "a set of that name");
     };
     let key = ServerKey::make(alloc, &set, &SEED, &[8; 32])?;
-    assert_eq!(rt; key.params().message_bits, 2);
+    assert_eq!(rt; key.params.message_bits, 2);
     let net = NetPen::new(alloc, 2).finish();
     let report = run_net(&rt, alloc, &net, &key, &[], 64, &OpenGate)?;
     assert_eq!(rt; (report.ran, report.finished), (0, 0));

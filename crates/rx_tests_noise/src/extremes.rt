@@ -42,10 +42,10 @@ pub fn extreme_words(
     ensures { IfOk result (λ words. length words.items
         ≡ boot_size made.now.params + switch_size made.now.params) }
 {
-    let p = made.params();
-    let mut boot = made.boot().words().to_vec(alloc)?;
+    let p = &made.params;
+    let mut boot = made.boot.words().to_vec(alloc)?;
     write_boot_bodies(p, small, large, end.noise(p.glwe_bound), &mut boot);
-    let mut switch = made.switch().words().to_vec(alloc)?;
+    let mut switch = made.switch.words().to_vec(alloc)?;
     write_switch_bodies(p, small, large, end.noise(p.lwe_bound), &mut switch);
     boot.extend_from_slice(&switch)?;
     Ok(boot)

@@ -4,7 +4,7 @@ use Rattle.std.specs.Option.{option_map}
 use Rattle.rx_params.specs.declared.params.Params.{Params}
 use Rattle.rx_net.specs.Limits.{most_jobs}
 use Rattle.rx_codec.specs.declared.cipher.Cipher.{Cipher}
-use Rattle.rx_crew.specs.Evaluation.{board_words, board_limit}
+use Rattle.rx_crew.specs.Board.{board_words, board_limit}
 use Rattle.rx_report.specs.Reports.{Report, difference_of, mismatch, wrong_workers, many_jobs, wide_board}
 
 -- the first of two refusals

@@ -11,7 +11,7 @@ fn one_more_is_looked_up(rt: HostRuntime) -> Result<(), Fail> {
         panic!(rt; "a set of that name");
     };
     let server = ServerKey::make(rt.alloc(), &set, &[1; 32], &[4; 32])?;
-    let p = server.params();
+    let p = &server.params;
     assert_eq!(rt; p.message_bits, 2);
     let key = SecretKey::large(rt.alloc(), p, &[1; 32])?;
     let mut scratch = BootScratch::new(rt.alloc(), p)?;

@@ -45,11 +45,11 @@ fn a_server_key(rt: HostRuntime) -> Result<(), Fail> {
     let file = server_file(rt.alloc())?;
     assert_eq!(rt; file.len(), SIZE);
     let key = decode_server(rt.alloc(), file.as_slice())?;
-    assert_eq!(rt; *key.params(), SMALL);
-    let boot = key.boot().words();
+    assert_eq!(rt; key.params, SMALL);
+    let boot = key.boot.words();
     assert_eq!(rt; boot.len(), 16384);
     assert_eq!(rt; boot.first(), Some(&0x0706_0504_0302_0100));
-    let switch = key.switch().words();
+    let switch = key.switch.words();
     assert_eq!(rt; switch.len(), 13824);
     assert_eq!(rt; switch.first(), Some(&0x3938_3736_3534_3332));
     assert_eq!(rt;

@@ -35,11 +35,11 @@ fn the_ends_lie_round_a_made_key(rt: HostRuntime) -> Result<(), Fail> {
         panic!(rt; "a set of that name");
     };
     let made = ServerKey::make(alloc, &p, &SEED, &[8; 32])?;
-    let small = SecretKey::small(alloc, made.params(), &SEED)?;
-    let large = SecretKey::large(alloc, made.params(), &SEED)?;
+    let small = SecretKey::small(alloc, &made.params, &SEED)?;
+    let large = SecretKey::large(alloc, &made.params, &SEED)?;
     let most = extreme_words(alloc, &made, &small, &large, End::Most)?;
     let least = extreme_words(alloc, &made, &small, &large, End::Least)?;
-    let words = made.boot().words().iter().chain(made.switch().words());
+    let words = made.boot.words().iter().chain(made.switch.words());
     for ((word, most), least) in words.zip(&most).zip(&least) {
         let width = most.wrapping_sub(*least);
         assert!(rt; [0, 2 << 17, 2 << 20].contains(&width), "{width}");
@@ -55,8 +55,8 @@ fn lookups_bear_all_noise_of_made_keys(rt: HostRuntime) -> Result<(), Fail> {
             panic!(rt; "a set of that name");
         };
         let key = ServerKey::make(rt.alloc(), &p, &SEED, &[8; 32])?;
-        assert_eq!(rt; key.params().message_bits, 2);
-        let large = SecretKey::large(rt.alloc(), key.params(), &SEED)?;
+        assert_eq!(rt; key.params.message_bits, 2);
+        let large = SecretKey::large(rt.alloc(), &key.params, &SEED)?;
         assert_lookups(&rt, &key, &large)?;
     }
     Ok(())
@@ -69,7 +69,7 @@ fn lookups_bear_all_noise_of_extreme_keys(rt: HostRuntime) -> Result<(), Fail> {
             panic!(rt; "a set of that name");
         };
         let made = ServerKey::make(rt.alloc(), &p, &SEED, &[8; 32])?;
-        let p = made.params();
+        let p = &made.params;
         assert_eq!(rt; p.message_bits, 2);
         let small = SecretKey::small(rt.alloc(), p, &SEED)?;
         let large = SecretKey::large(rt.alloc(), p, &SEED)?;
@@ -92,7 +92,7 @@ fn assert_lookups<R: AllocGlobal + Abort>(
     requires message_bits { key.now.params.message_bits ≡ 2 }
     requires key_size { length large.now ≡ large_dim key.now.params }
 {
-    let bounds = bounds(rt, key.params());
+    let bounds = bounds(rt, &key.params);
     let noise = u64::try_from(bounds.base.saturating_mul(MOST_NOISE))?;
     for (place, entry) in APART.iter().enumerate() {
         let middle = place as u64 * unit(2);
@@ -132,7 +132,7 @@ fn looked_up(
     requires key_size { length large.now ≡ large_dim key.now.params }
     requires input_size { length input.now ≡ length large.now + 1 }
 {
-    let mut scratch = BootScratch::new(alloc, key.params())?;
+    let mut scratch = BootScratch::new(alloc, &key.params)?;
     let mut output = vec![in alloc; 0; large.bits().len() + 1]?;
     bootstrap_into(&mut scratch, key, &APART, input, &mut output);
     Ok(phase(large, &output))

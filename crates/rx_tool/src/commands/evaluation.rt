@@ -53,7 +53,7 @@ pub fn evaluate<R: Threads + Sync, G: Gate + Sync>(
     let items = output_items(alloc, net.outputs.as_slice(), outputs)?;
     Ok(Evaluation {
         outputs: Cipher {
-            params: *key.params(),
+            params: key.params,
             items,
         },
         jobs: report.ran + report.finished,

@@ -52,7 +52,7 @@ pub fn run_net_files<R: Threads + Sync, G: Gate + Sync>(
         Ok(ciphers) => ciphers,
         Err(stop) => return Err(stop),
     };
-    let set = key.params();
+    let set = &key.params;
     let blocks = match checked_inputs(alloc, set, net.as_str(), &legal, workers, names, &ciphers) {
         Ok(blocks) => blocks,
         Err(stop) => return Err(stop),

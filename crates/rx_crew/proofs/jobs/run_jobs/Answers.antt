@@ -4,6 +4,8 @@ use Rattle.rx_laws.specs.Decode.{plaintexts}
 use Rattle.rx_net.specs.declared.net.Job.{Job}
 use Rattle.rx_net.specs.Cells.{input_cells, laid}
 use Rattle.rx_net.specs.Legal.{IsJob}
+use Rattle.rx_boot.specs.BootKeys.{boot_size}
+use Rattle.rx_boot.specs.ServerKeys.{ServerWords}
 use Rattle.rx_block.specs.Combine.{AreBlocksOf}
 use Rattle.rx_crew.specs.Evaluation.{job_block}
 use Rattle.rx_crew.proofs.Operands.{cells-of}
@@ -59,7 +61,7 @@ loop-number-preserved c =
           c.as_slice-job-items.ensures (omega (arith, c.loop-number-test.true)) c.job-item.is here next c.loop-number.invariant.laid;
       sizes = subst (AreBlocksOf c.args.key.now.params) (sym c.run_job.ensures.cells)
           (are-set c.args.key.now.params c.loop-number.cells place (job_block c.args.key.now c.job-item.result (take place c.loop-number.cells))
-          c.loop-number.invariant.sizes (length-job_block c.args.key.now c.job-item.result (take place c.loop-number.cells) (sym (ap length c.boot-rows.ensures.value) ∙ c.boot-rows.ensures.size)));
+          c.loop-number.invariant.sizes (length-job_block c.args.key.now c.job-item.result (take place c.loop-number.cells) (subst (λ (k : ServerWords). length k.boot ≡ boot_size k.params) c.key.view_is c.key.invariant.1)));
       room = c.run_job.ensures.room_stays;
     }
 

@@ -1,6 +1,6 @@
 use Rattle.std.proofs.Common.{◌+◌, sym, subst, ◌∙◌, ap}
-use Rattle.rx_params.specs.declared.params.Params.{Params}
 use Rattle.rx_params.specs.Derived.{large_dim}
+use Rattle.rx_boot.specs.ServerKeys.{ServerWords}
 use Rattle.rx_block.specs.Combine.{AreBlocksOf}
 use Rattle.rx_crew.specs.Evaluation.{AreWordsOf}
 use Rattle.rx_crew.proofs.Keeping.{outputs-keep}
@@ -10,16 +10,16 @@ use Rattle.rx_crew.proofs.run.run_net.Goals as goal
 pub evaluate-requires-clause-sum_size : goal.evaluate-requires-clause-sum_size
 evaluate-requires-clause-sum_size g c =
     c.deref_mut.ensures.len ∙ c.in_ok-sum.ensures.len ∙ ap (λ n. n + 1) c.large_dim.ensures.value
-    ∙ ap (λ (p : Params). large_dim p + 1) c.params-p.ensures.value
+    ∙ ap (λ (k : ServerWords). large_dim k.params + 1) c.key.view_is
 
 pub evaluate-requires-clause-cell_sizes : goal.evaluate-requires-clause-cell_sizes
 evaluate-requires-clause-cell_sizes g c =
-    zeros-are c.args.key.now.params c.params-p.result.now _ c.deref_mut-2.result.now c.in_ok-cells.cells.items c.params-p.ensures.value
+    zeros-are c.args.key.now.params c.key.inside.params _ c.deref_mut-2.result.now c.in_ok-cells.cells.items (ap (λ (k : ServerWords). k.params) c.key.view_is)
     c.deref_mut-2.ensures.value c.in_ok-cells.ensures
 
 pub evaluate-requires-clause-output_sizes : goal.evaluate-requires-clause-output_sizes
 evaluate-requires-clause-output_sizes g c =
-    zeros-are c.args.key.now.params c.params-p.result.now _ c.deref_mut-3.result.now c.in_ok-outputs.outputs.items c.params-p.ensures.value
+    zeros-are c.args.key.now.params c.key.inside.params _ c.deref_mut-3.result.now c.in_ok-outputs.outputs.items (ap (λ (k : ServerWords). k.params) c.key.view_is)
     c.deref_mut-3.ensures.value c.in_ok-outputs.ensures
 
 pub returns-clause-sizes : goal.returns-clause-sizes

@@ -3,6 +3,7 @@ use Rattle.rx_params.specs.declared.params.Params.{Params}
 use Rattle.rx_params.specs.Derived.{large_dim}
 use Rattle.rx_net.specs.declared.net.Net.{Net}
 use Rattle.rx_net.specs.Cells.{input_cells, degree, noise}
+use Rattle.rx_boot.specs.ServerKeys.{ServerWords}
 use Rattle.rx_block.specs.declared.block.Block.{Block}
 use Rattle.rx_block.specs.Combine.{no_block}
 use Rattle.rx_crew.specs.Evaluation.{AreInputs}
@@ -29,7 +30,7 @@ are-inputs p net a b h k cells tags = record {
 pub run_net-requires-clause-inputs : goal.run_net-requires-clause-inputs
 run_net-requires-clause-inputs g c κs =
     let p : Params = c.in_ok-key.key.params in
-    let d : large_dim c.params-p.result.now ≡ large_dim p = ap (λ (p : Params). large_dim p) c.params-p.ensures.value in
+    let d : large_dim c.key.inside.params ≡ large_dim p = ap (λ (k : ServerWords). large_dim k.params) c.key.view_is in
     let s : length c.in_ok-secret.secret + 1 ≡ large_dim p + 1 = omega (arith, d, c.in_ok-secret.ensures.size) in
     let a : Fresh (large_dim p + 1) c.in_ok-block.field-0 = (omega (arith, s, c.in_ok-block.ensures.size), c.in_ok-block.ensures.tags) in
     let b : Fresh (large_dim p + 1) c.in_ok-block-2.field-0 = (omega (arith, s, c.in_ok-block-2.ensures.size), c.in_ok-block-2.ensures.tags) in
