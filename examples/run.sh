@@ -1,8 +1,8 @@
 #!/bin/sh
 # The whole way, in the folder `out` beside this script: a client and a server key, the numbers of the file
-# `values` encrypted, the net of the file `total.net` (the sum of `price` and `fee`) evaluated over them by
-# the server key alone, and both files read by the client. The first run proves and builds the program,
-# which takes some minutes.
+# `values` encrypted, the net of the file `total.net` (the sum of `price` and `fee`, as `make_total_net`
+# writes it) evaluated over them by the server key alone, and both files read by the client. The first run
+# proves and builds the program, which takes some minutes.
 set -eu
 here=$(cd "$(dirname "$0")" && pwd)
 program="$here/../crates/rxint"

@@ -15,7 +15,7 @@ use Rattle.rx_block.specs.Noise.{KeepOperands, KeepsSum, KeepsEntry}
 
 -- The weighted sum of what some blocks keep lies between the bounds that their degrees give, and where it is not negative its
 -- words hold it within the weighted sum of the noise tags. So a sum that is not refused keeps it; a block that was looked up
--- keeps the table's entry; and a block that keeps a number decrypts to it.
+-- keeps the table's entry where its degree is one of a block; and a block that keeps a number decrypts to it.
 pub record KeepsLaws : Type 0 where
   pub low : (p : Params) (key : List ℕ) (blocks : List Block) (terms : List Term) (constant : ℤ) (value : ℕ → ℕ) →
       KeepOperands p key blocks terms value → low_of (degree_in blocks) constant terms ≤ℤ value_of value constant terms

@@ -10,8 +10,9 @@ pub fn fresh_laws()
     ensures { FreshLaws }
 {}
 
-/// A weighted sum of blocks that is not refused keeps the weighted sum of what they keep, a block that is
-/// looked up keeps the table's entry, and a block decrypts to what it keeps. Source: `docs/NOISE.md`.
+/// A weighted sum of blocks that is not refused keeps the weighted sum of what they keep; a block that is
+/// looked up keeps the table's entry, where the degree that it is given is below `4^message_bits`; and a block
+/// decrypts to what it keeps. Source: `docs/NOISE.md`.
 pub fn keeps_laws()
     ensures { KeepsLaws }
 {

@@ -11,6 +11,7 @@ use rx_net::greatest_between;
 
 /// Looks a table of `4^message_bits` entries up in a block: `out` becomes a block of the table's entry at
 /// the block's number, with a noise tag of 1 and the greatest entry up to the block's degree as its degree.
+/// Where the block keeps a number and that degree is below `4^message_bits`, `out` keeps the number's entry.
 /// Both have the words of the set's blocks. Source: handbook, shortint (lookup tables).
 pub fn lookup(
     scratch: &mut BootScratch,

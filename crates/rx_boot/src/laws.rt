@@ -7,8 +7,8 @@ pub fn budget_laws()
     ensures { BudgetLaws }
 {}
 
-/// Under every accepted set, for every secret and every server key of it, a bootstrap of a number gives the
-/// table's entry, within the noise of a bootstrap.
+/// Under every accepted set, for every secret and every server key of it, a bootstrap of a number that is held
+/// within the greatest noise of an input gives the table's entry, within the noise of a bootstrap.
 pub fn lookup_laws()
     ensures { LookupLaws }
 {}

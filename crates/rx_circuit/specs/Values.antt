@@ -46,11 +46,15 @@ abbrev pub NamesOnce : List ValueLine → Type 0
 NamesOnce [] = Unit {0}
 NamesOnce (v ∷ lines) = (has_name v.name lines ≡ false) × NamesOnce lines
 
+-- the most lines of a value file
+abbrev pub most_lines : ℕ
+most_lines = 64
+
 -- the lines of a value file
 pub record AreValues (lines : List ValueLine) : Type 0 where
   pub each : AllByRecursion IsValueLine lines
   pub once : NamesOnce lines
-  pub count : length lines ≤ 64
+  pub count : length lines ≤ most_lines
 
 -- the bytes are the value file of these lines
 pub record ValuesText (bytes : List ℕ) (lines : List ValueLine) : Type 0 where
@@ -72,13 +76,13 @@ spelled_line (kind ∷ name ∷ bits ∷ value ∷ []) = line_parts (kind_of kin
 spelled_line _ = None
 
 -- The causes of a line, after the lines before it: it has no spelling; a numeral is outside its range; the name stands in an
--- earlier line; there are 64 lines before it.
+-- earlier line; there are `most_lines` lines before it.
 abbrev pub line_after : List ValueLine → Option ValueLine → Result ValueLine LineCause
 line_after before None = Err Form
 line_after before (Some v) =
     if is_width v.kind v.bits && nat_lt v.value (2 ^ v.bits) then
     if has_name v.name before then Err Again
-    else if nat_lt (length before) 64 then Ok v else Err Limit
+    else if nat_lt (length before) most_lines then Ok v else Err Limit
     else Err Number
 
 -- the lines so far and those that stand between the line feeds, or the first fault

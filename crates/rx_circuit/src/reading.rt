@@ -15,7 +15,7 @@ use std::alloc::Global;
 const MOST_LINES: usize = 64;
 
 /// The values that a value file spells, or the first line that is wrong, with its cause: `Form`, `Number`, `Again` or
-/// `Limit`. The reading takes memory for the values alone.
+/// `Limit`; or want of memory.
 pub fn read_values(alloc: Global, bytes: &[u8]) -> Result<Values, ParseError>
     // Which fault it is, unless memory ran out.
     ensures exact { Gives result (values_from bytes.now) }

@@ -2,7 +2,7 @@
 use rx_params::{Kind, Name};
 use std::marker::Model;
 
-/// A line of a value file.
+/// A line of a value file. What is said of its numbers and of its name holds of the lines of `Values`.
 #[derive(Clone, Copy, Debug, PartialEq, Eq)]
 pub struct ValueLine {
     /// An int or a bit.

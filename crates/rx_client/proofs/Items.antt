@@ -4,18 +4,11 @@ use Rattle.std.specs.List.{flat_map, range_with_len}
 use Rattle.std.proofs.lemmas.List.{flat_map_more}
 use Rattle.std.proofs.lemmas.List.FromFn.{map-range_with_len_more}
 use Rattle.rx_params.specs.declared.params.Params.{Params}
-use Rattle.rx_params.specs.Kinds.{digit_at}
 use Rattle.rx_block.specs.declared.block.Block.{Block}
-use Rattle.rx_block.specs.Fresh.{fresh}
 use Rattle.rx_circuit.specs.declared.values.ValueLine.{ValueLine}
 use Rattle.rx_codec.specs.declared.cipher.Item.{Item}
 use Rattle.rx_codec.specs.CipherFile.{block_bytes, item_bytes}
-use Rattle.rx_client.specs.Encrypt.{items_from}
-
--- block i of a line
-abbrev pub line_block : Params → List ℕ → List ℕ → List ℕ → ℕ → ValueLine → ℕ → Block
-line_block p key mask_seed noise_seed number v i =
-    fresh p key mask_seed noise_seed (number + i) v.kind (digit_at p.message_bits v.value i)
+use Rattle.rx_client.specs.Encrypt.{line_block, items_from}
 
 -- the bytes of the first n blocks of a line
 abbrev pub blocks_to : Params → List ℕ → List ℕ → List ℕ → ℕ → ValueLine → ℕ → List ℕ

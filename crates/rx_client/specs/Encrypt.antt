@@ -23,11 +23,15 @@ abbrev pub line_digits : ℕ → ValueLine → List ℕ
 line_digits message_bits v =
     digits_of message_bits (block_count v.kind message_bits v.bits) v.value
 
--- the fresh blocks of the digits of a line, the first of which has this number
+-- the fresh block of digit i of a line, whose first block has this number
+abbrev pub line_block : Params → List ℕ → List ℕ → List ℕ → ℕ → ValueLine → ℕ → Block
+line_block p key mask_seed noise_seed number v i =
+    fresh p key mask_seed noise_seed (number + i) v.kind (digit_at p.message_bits v.value i)
+
+-- all blocks of a line
 abbrev pub line_blocks : Params → List ℕ → List ℕ → List ℕ → ℕ → ValueLine → List Block
 line_blocks p key mask_seed noise_seed number v =
-    map (λ i. fresh p key mask_seed noise_seed (number + i) v.kind (digit_at p.message_bits v.value i))
-    (range_with_len 0 (blocks_in p v))
+    map (line_block p key mask_seed noise_seed number v) (range_with_len 0 (blocks_in p v))
 
 abbrev pub line_item : Params → List ℕ → List ℕ → List ℕ → ℕ → ValueLine → Item
 line_item p key mask_seed noise_seed number v = record {

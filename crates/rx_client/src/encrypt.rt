@@ -8,13 +8,14 @@ ghost use Rattle.rx_params.specs.Kinds.{block_count, digit_at as digit_of};
 ghost use Rattle.rx_circuit.specs.Values.{AreValues, IsValueLine};
 ghost use Rattle.rx_codec.specs.CipherFile.{CipherFile, IsCipher, IsWritable, item_bytes};
 ghost use Rattle.rx_codec.specs.Kept.{AreItemsKept};
-ghost use Rattle.rx_client.specs.Encrypt.{line_digits, line_item, items_from, encrypted_values, has_width as has_width_of, first_width, KeepsValues};
+ghost use Rattle.rx_client.specs.Encrypt.{line_digits, line_block as line_block_of, line_item, items_from, encrypted_values, has_width as has_width_of, first_width, KeepsValues};
 
-use rx_block::{fresh_block, fresh_words_into};
+use rx_block::{Block, Tags, fresh_words_into};
 use rx_circuit::ValueLine;
 use rx_codec::{Blocks, Cipher, CipherWriter, HEAD_SIZE, Item, Items, item_size};
 use rx_lwe::SecretKey;
 use rx_params::{Kind, Params};
+use rx_torus::Words;
 use std::alloc::{AllocError, Global};
 
 /// The first line whose bits are no multiple of the message bits, of which there are 2 or 3.
@@ -142,17 +143,7 @@ fn fresh_item(
     let count = blocks_in(p.message_bits, line);
     let mut blocks = Vec::with_capacity(alloc, count as usize)?;
     for i in 0..count {
-        let digit = digit_at(p.message_bits, line.value, i);
-        let block = fresh_block(
-            alloc,
-            p,
-            key,
-            mask_seed,
-            noise_seed,
-            number + i,
-            line.kind,
-            digit,
-        )?;
+        let block = line_block(alloc, p, key, mask_seed, noise_seed, number, line, i)?;
         blocks.push(block)?;
     }
     Ok(Item {
@@ -219,20 +210,69 @@ fn write_item(
 {
     file.item(&line.name, line.kind, line.bits)?;
     for i in 0..blocks_in(p.message_bits, line) {
-        let digit = digit_at(p.message_bits, line.value, i);
-        let tags = fresh_words_into(
-            p,
-            key,
-            mask_seed,
-            noise_seed,
-            number + i,
-            line.kind,
-            digit,
-            words,
-        );
+        let tags = line_block_into(p, key, mask_seed, noise_seed, number, line, i, words);
         file.block(words, tags)?;
     }
     Ok(())
+}
+
+/// Block i of a line whose first block has this number, in words of its own.
+fn line_block(
+    alloc: Global,
+    p: &Params,
+    key: &SecretKey,
+    mask_seed: &[u8; 32],
+    noise_seed: &[u8; 32],
+    number: u32,
+    line: &ValueLine,
+    i: u32,
+) -> Result<Block, AllocError>
+    requires fields { FieldsInRange p.now }
+    requires line { IsValueLine line.now }
+    requires numbers { number + 64 < 2 ^ 32 }
+    requires here { i < block_count line.now.kind p.now.message_bits line.now.bits }
+    ensures { IfOk result (λ block. block
+        ≡ line_block_of p.now key.now mask_seed.now noise_seed.now number line.now i) }
+{
+    let mut words = vec![in alloc; 0; key.bits().len() + 1]?;
+    let tags = line_block_into(p, key, mask_seed, noise_seed, number, line, i, &mut words);
+    Ok(Block {
+        words: Words::from_vec(words),
+        degree: tags.degree,
+        noise: tags.noise,
+    })
+}
+
+/// Makes block i of a line, whose first block has this number, in the lent words, and gives its tags.
+fn line_block_into(
+    p: &Params,
+    key: &SecretKey,
+    mask_seed: &[u8; 32],
+    noise_seed: &[u8; 32],
+    number: u32,
+    line: &ValueLine,
+    i: u32,
+    words: &mut [u64],
+) -> Tags
+    requires fields { FieldsInRange p.now }
+    requires line { IsValueLine line.now }
+    requires numbers { number + 64 < 2 ^ 32 }
+    requires here { i < block_count line.now.kind p.now.message_bits line.now.bits }
+    requires room { length words.old ≡ length key.now + 1 }
+    ensures { line_block_of p.now key.now mask_seed.now noise_seed.now number line.now i
+        ≡ record { words = words.new; degree = result.degree; noise = result.noise } }
+{
+    let digit = digit_at(p.message_bits, line.value, i);
+    fresh_words_into(
+        p,
+        key,
+        mask_seed,
+        noise_seed,
+        number + i,
+        line.kind,
+        digit,
+        words,
+    )
 }
 
 /// How many blocks a line has.

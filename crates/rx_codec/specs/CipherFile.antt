@@ -64,16 +64,20 @@ abbrev pub ItemsOnce : List Item → Type 0
 ItemsOnce [] = Unit {0}
 ItemsOnce (i ∷ items) = (has_item i.name items ≡ false) × ItemsOnce items
 
+-- the most items of a file
+abbrev pub most_items : ℕ
+most_items = 64
+
 -- what is asked of a cipher that is to be written: all but that names are names, as each `Name` is
 pub record IsWritable (c : Cipher) : Type 0 where
   pub accepted : Accepts c.params
-  pub count : length c.items ≤ 64
+  pub count : length c.items ≤ most_items
   pub items : AllByRecursion (IsWritableItem c.params) c.items
   pub once : ItemsOnce c.items
 
 pub record IsCipher (c : Cipher) : Type 0 where
   pub accepted : Accepts c.params
-  pub count : length c.items ≤ 64
+  pub count : length c.items ≤ most_items
   pub items : AllByRecursion (IsItem c.params) c.items
   pub once : ItemsOnce c.items
 
@@ -117,6 +121,6 @@ cipher_from file = do
   after ← magic_at (codes "RXE1") file
   params ← params_at file after
   count ← number_at w32 file params.1
-  count ← in_range (nat_le count.0 64) params.1 count
+  count ← in_range (nat_le count.0 most_items) params.1 count
   items ← items_at params.0 count.0 [] file count.1
   ends_at file items.1 (record { params = params.0; items = items.0 })

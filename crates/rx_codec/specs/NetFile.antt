@@ -2,7 +2,7 @@
 -- An input is a name, a form, a degree and a noise tag. A job is its terms after their number, a constant, one entry of a
 -- table for each number of a block, and a degree. A term is a cell and a weight. An output is a name, a form and a cell for each
 -- of its blocks. Whole numbers are little-endian, and negative ones are counted from the top.
-use Rattle.std.specs.Prelude.{ℕ, ◌^◌, ◌≡◌, nat_le, ◌&&◌, ◌||◌, ◌==◌, List, [], ◌∷◌, ◌++◌, length, codes, Result, Ok, Err, Option, Some, None}
+use Rattle.std.specs.Prelude.{ℕ, ◌≡◌, nat_le, ◌&&◌, ◌||◌, ◌==◌, List, [], ◌∷◌, ◌++◌, length, codes, Result, Ok, Err, Option, Some, None}
 use Rattle.std.specs.List.{flat_map}
 use Rattle.std.specs.Int.{w8, w16, w32, to_le_bytes}
 use Rattle.rx_laws.specs.Decode.{plaintexts}
@@ -14,6 +14,7 @@ use Rattle.rx_net.specs.declared.net.NetInput.{NetInput}
 use Rattle.rx_net.specs.declared.net.NetOutput.{NetOutput}
 use Rattle.rx_net.specs.declared.net.Net.{Net}
 use Rattle.rx_net.specs.declared.fault.NetFault.{NetFault}
+use Rattle.rx_net.specs.Limits.{most_inputs, most_outputs, most_terms, most_jobs}
 use Rattle.rx_net.specs.Legal.{names_input, names_output}
 use Rattle.rx_net.specs.Named.{IsNet}
 use Rattle.rx_net.specs.Faults.{fault_of}
@@ -67,7 +68,7 @@ term_at file at = do
 
 unfoldable pub job_at : ℕ → List ℕ → ℕ → Result (Job × ℕ) CodecFault
 job_at space file at = do
-  terms ← list_at w8 16 (λ before. term_at) file at
+  terms ← list_at w8 most_terms (λ before. term_at) file at
   constant ← signed_at w16 file terms.1
   table ← bytes_at file (plaintexts space) constant.1
   degree ← number_at w8 file table.1
@@ -88,9 +89,9 @@ space_at file at = do
 -- a net of a space, of its three lists
 unfoldable pub lists_at : ℕ → List ℕ → ℕ → Result (Net × ℕ) CodecFault
 lists_at space file at = do
-  inputs ← list_at w16 64 (input_at space) file at
-  jobs ← list_at w32 (2 ^ 16) (λ before. job_at space) file inputs.1
-  outputs ← list_at w16 64 (output_at space) file jobs.1
+  inputs ← list_at w16 most_inputs (input_at space) file at
+  jobs ← list_at w32 most_jobs (λ before. job_at space) file inputs.1
+  outputs ← list_at w16 most_outputs (output_at space) file jobs.1
   Ok (record { space = space; inputs = inputs.0; jobs = jobs.0; outputs = outputs.0 }, outputs.1)
 
 -- the net that the fields of a file spell, legal or not

@@ -1,6 +1,7 @@
 //! Reading the fields of a net file, legal or not.
-ghost use Rattle.std.specs.Prelude.{◌≡◌, ◌⊎◌, ◌^◌, [], IfOk};
+ghost use Rattle.std.specs.Prelude.{◌≡◌, ◌⊎◌, [], IfOk};
 ghost use Rattle.std.specs.Int.{w8, w16, w32};
+ghost use Rattle.rx_net.specs.Limits.{most_inputs, most_outputs, most_terms, most_jobs};
 ghost use Rattle.rx_net.specs.Legal.{names_input as has_input, names_output as has_output};
 ghost use Rattle.rx_codec.specs.Reading.{GivesExactlyAt, GivesAt, Gives, number_at, many_at, list_at};
 ghost use Rattle.rx_codec.specs.NamedFields.{name_at};
@@ -10,19 +11,11 @@ use crate::CodecFault;
 use crate::named_fields::{new_name, read_form, read_name_size};
 use crate::reader::{Reader, in_range};
 use rx_net::{
-    Cells, Job, Jobs, Net, NetInput, NetInputs, NetOutput, NetOutputs, Table, Term, Terms,
+    Cells, Job, Jobs, MOST_INPUTS, MOST_JOBS, MOST_OUTPUTS, MOST_TERMS, Net, NetInput, NetInputs,
+    NetOutput, NetOutputs, Table, Term, Terms,
 };
 use rx_params::{Name, noise_limit, plaintexts};
 use std::alloc::Global;
-
-/// The most inputs of a net, and the most outputs.
-const MOST_NUMBERS: u16 = 64;
-
-/// The most jobs of a net.
-const MOST_JOBS: u32 = 65_536;
-
-/// The most terms of a job.
-const MOST_TERMS: u8 = 16;
 
 /// The net that the fields of a file spell, or the first fault of a field.
 #[tactic(auto, unfolding(crate::specs::NetFile::spelled_from))]
@@ -73,10 +66,10 @@ fn read_lists(alloc: Global, reader: &mut Reader, space: u32) -> Result<Net, Cod
 fn read_inputs(alloc: Global, reader: &mut Reader, space: u32) -> Result<NetInputs, CodecFault>
     requires { (space ≡ 2) ⊎ (space ≡ 3) }
     ensures value { GivesAt (λ inputs. inputs) reader.new.at result
-        (list_at w16 64 (input_at space) reader.old.file reader.old.at) }
+        (list_at w16 most_inputs (input_at space) reader.old.file reader.old.at) }
     ensures file { reader.new.file ≡ reader.old.file }
 {
-    let count = reader.u16_at_most(MOST_NUMBERS)?;
+    let count = reader.u16_at_most(MOST_INPUTS as u16)?;
     let inputs = read_each_input(alloc, reader, space, count)?;
     Ok(NetInputs::from_vec(inputs))
 }
@@ -147,10 +140,10 @@ fn names_input(name: &[u8], inputs: &[NetInput]) -> bool
 fn read_jobs(alloc: Global, reader: &mut Reader, space: u32) -> Result<Jobs, CodecFault>
     requires { (space ≡ 2) ⊎ (space ≡ 3) }
     ensures value { GivesAt (λ jobs. jobs) reader.new.at result
-        (list_at w32 (2 ^ 16) (λ before. job_at space) reader.old.file reader.old.at) }
+        (list_at w32 most_jobs (λ before. job_at space) reader.old.file reader.old.at) }
     ensures file { reader.new.file ≡ reader.old.file }
 {
-    let count = reader.u32_at_most(MOST_JOBS)?;
+    let count = reader.u32_at_most(MOST_JOBS as u32)?;
     let jobs = read_each_job(alloc, reader, space, count)?;
     Ok(Jobs::from_vec(jobs))
 }
@@ -196,10 +189,10 @@ fn read_job(alloc: Global, reader: &mut Reader, space: u32) -> Result<Job, Codec
 #[tactic(auto, unfolding(crate::specs::Reading::list_at))]
 fn read_terms(alloc: Global, reader: &mut Reader) -> Result<Terms, CodecFault>
     ensures value { GivesAt (λ terms. terms) reader.new.at result
-        (list_at w8 16 (λ before. term_at) reader.old.file reader.old.at) }
+        (list_at w8 most_terms (λ before. term_at) reader.old.file reader.old.at) }
     ensures file { reader.new.file ≡ reader.old.file }
 {
-    let count = reader.u8_at_most(MOST_TERMS)?;
+    let count = reader.u8_at_most(MOST_TERMS as u8)?;
     let terms = read_each_term(alloc, reader, count)?;
     Ok(Terms::from_vec(terms))
 }
@@ -232,10 +225,10 @@ fn read_term(reader: &mut Reader) -> Result<Term, CodecFault>
 fn read_outputs(alloc: Global, reader: &mut Reader, space: u32) -> Result<NetOutputs, CodecFault>
     requires { (space ≡ 2) ⊎ (space ≡ 3) }
     ensures value { GivesAt (λ outputs. outputs) reader.new.at result
-        (list_at w16 64 (output_at space) reader.old.file reader.old.at) }
+        (list_at w16 most_outputs (output_at space) reader.old.file reader.old.at) }
     ensures file { reader.new.file ≡ reader.old.file }
 {
-    let count = reader.u16_at_most(MOST_NUMBERS)?;
+    let count = reader.u16_at_most(MOST_OUTPUTS as u16)?;
     let outputs = read_each_output(alloc, reader, space, count)?;
     Ok(NetOutputs::from_vec(outputs))
 }

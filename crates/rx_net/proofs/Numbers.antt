@@ -1,6 +1,6 @@
 -- The digits of a number, and the number of some digits.
 use Rattle.std.proofs.Common.{pow-add, ◌≡◌, ℕ, zero, suc, ◌+◌, ◌*◌, ◌/◌, ◌%◌, ◌^◌, ◌<◌, ◌≤◌, refl, sym, ◌∙◌, ap, arith, List, [], ◌∷◌, map, length}
-use Rattle.std.specs.List.{AllByRecursion, range_with_len}
+use Rattle.std.specs.List.{range_with_len}
 use Rattle.std.proofs.Math.Nat.{mod-add-div, div-div-eq-div-mul, lt_of_mul-lt-mul_left, mul-le-mul_left}
 use Rattle.std.proofs.lemmas.Nat.{pow_pos, mod_below, div-mul-add, mod-mul-add}
 use Rattle.rx_params.specs.Kinds.{digit_at}

@@ -30,6 +30,23 @@ pub fn given_net(alloc: Global) -> Result<Net, Fail>
     Ok(pen.finish())
 }
 
+/// The net that gives two numbers back, `b` of four bits and `c` of eight: `b` first, or turned round.
+pub fn both_net(alloc: Global, is_turned: bool) -> Result<Net, Fail>
+    ensures { IfOk result IsNet }
+{
+    let mut pen = NetPen::new(alloc, 2);
+    pen.input(number("b", 2, 4)?)?;
+    pen.input(number("c", 2, 8)?)?;
+    if !is_turned {
+        pen.output(name("b")?, Kind::Int, 4, &[0, 1])?;
+    }
+    pen.output(name("c")?, Kind::Int, 8, &[2, 3, 4, 5])?;
+    if is_turned {
+        pen.output(name("b")?, Kind::Int, 4, &[0, 1])?;
+    }
+    Ok(pen.finish())
+}
+
 /// The net of the sum `s` of two numbers `a` and `b` of four bits, and of `t`, a fourth of
 /// `2 * a1 - b1 + 3` for their upper blocks. The blocks of `a` are the cells 0 and 1, those of `b` 2 and 3.
 pub fn sum_net(alloc: Global) -> Result<Net, Fail>

@@ -1,6 +1,6 @@
 //! What is wrong with a line of a text.
 
-/// Why a line is wrong. The causes of a line are tried in this order.
+/// Why a line is wrong. A reader tries the causes of its format in this order, as its own contract says.
 #[derive(Clone, Copy, Debug, PartialEq, Eq)]
 pub enum LineCause {
     /// The line has no spelling of its format, or has no line feed at its end, or is missing.

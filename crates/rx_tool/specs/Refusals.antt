@@ -4,7 +4,7 @@ use Rattle.std.specs.Option.{option_map}
 use Rattle.rx_params.specs.declared.params.Params.{Params}
 use Rattle.rx_net.specs.Limits.{most_jobs}
 use Rattle.rx_codec.specs.declared.cipher.Cipher.{Cipher}
-use Rattle.rx_crew.specs.Board.{board_words, board_limit}
+use Rattle.rx_crew.specs.Board.{board_words, board_limit, worker_limit}
 use Rattle.rx_report.specs.Reports.{Report, difference_of, mismatch, wrong_workers, many_jobs, wide_board}
 
 -- the first of two refusals
@@ -29,11 +29,8 @@ set_difference p (name ∷ names) (c ∷ ciphers) =
 
 -- ---- limits
 
-abbrev pub most_workers : ℕ
-most_workers = 64
-
 abbrev pub workers_refusal : ℕ → Option Report
-workers_refusal count = if nat_le 1 count && nat_le count most_workers then None else Some (wrong_workers count)
+workers_refusal count = if nat_le 1 count && nat_le count worker_limit then None else Some (wrong_workers count)
 
 abbrev pub jobs_refusal : ℕ → Option Report
 jobs_refusal jobs = if nat_le jobs most_jobs then None else Some (many_jobs jobs)
@@ -49,6 +46,6 @@ limits_refusal p workers jobs =
 -- none is passed
 pub record IsWithinLimits (p : Params) (workers jobs : ℕ) : Type 0 where
   pub workers_low : 1 ≤ workers
-  pub workers_high : workers ≤ most_workers
+  pub workers_high : workers ≤ worker_limit
   pub few_jobs : jobs ≤ most_jobs
   pub board : board_words p jobs ≤ board_limit

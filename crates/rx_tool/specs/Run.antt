@@ -31,9 +31,13 @@ use Rattle.rx_tool.specs.Refusals.{or_else, space_difference, set_difference, Is
 abbrev pub word_number : List ℕ → Option ℕ
 word_number word = option_and_then (λ n. if nat_lt n (2 ^ 64) then Some n else None) (numeral_of word)
 
+-- the most ciphertext files of a run
+abbrev pub most_files : ℕ
+most_files = 64
+
 abbrev pub run_of : List (List ℕ) → Option Command
 run_of (server ∷ net ∷ workers ∷ out ∷ inputs) =
-    if nat_le (length inputs) 64 then option_map (λ count. Run server net count out inputs) (word_number workers) else None
+    if nat_le (length inputs) most_files then option_map (λ count. Run server net count out inputs) (word_number workers) else None
 run_of _ = None
 
 -- ---- what refuses, one thing after another

@@ -17,7 +17,7 @@ use rx_text::Numeral;
 use std::alloc::{AllocError, Global};
 
 /// The most ciphertext files of a run.
-const MOST_INPUTS: usize = 64;
+const MOST_FILES: usize = 64;
 
 /// Where a parameter set comes from.
 #[derive(Drop)]
@@ -156,7 +156,7 @@ fn parse_run(arguments: &[String]) -> Option<Command<'_>>
 {
     match arguments {
         [server, net, workers, out, inputs @ ..] => {
-            if inputs.len() > MOST_INPUTS {
+            if inputs.len() > MOST_FILES {
                 return None;
             }
             let workers = parse_number(workers.as_str())?;

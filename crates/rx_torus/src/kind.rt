@@ -2,8 +2,8 @@
 ghost use Rattle.std.specs.Prelude.{◌≡◌};
 ghost use Rattle.rx_torus.specs.Kinds.{stream_number};
 
-/// What a stream is drawn for, and under which seed. Each row of a kind, by its number from 0, has a stream
-/// of its own.
+/// What a stream is drawn for. Each row of a kind, by its number from 0, has a stream of its own. A kind gives the number
+/// of the stream alone: the seed that is named with it is the one that whoever draws has to take.
 #[derive(Clone, Copy, Debug, PartialEq, Eq)]
 pub enum StreamKind {
     /// Bits of the small key, under the client's seed. It has row 0 alone.

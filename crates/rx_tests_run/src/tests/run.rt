@@ -1,8 +1,9 @@
 //! Nets evaluated through the whole program.
-use crate::nets::{GIVEN_BACK, bare_net, given_net, sum_net};
+use crate::nets::{GIVEN_BACK, bare_net, both_net, given_net, sum_net};
 use rx_codec::encode_net;
-use rx_store::MemStore;
-use rx_tests_kit::{first_wrong, has_length, no_files, place_changed, printed, was_printed};
+use rx_store::{MemSink, MemStore};
+use rx_tests_kit::{first_wrong, has_length, no_files, place_changed, printed, run, was_printed};
+use std::alloc::AllocError;
 use std::test::Fail;
 use std::thread::Threads;
 
@@ -63,6 +64,72 @@ fn nets_are_evaluated(rt: HostRuntime) -> Result<(), Fail> {
     ];
     assert_eq!(rt; first_wrong(&rt, &mut store, &cases)?, None);
     assert!(rt; has_length(&store, "none", 48));
+    Ok(())
+}
+
+/// A number that is given back has the blocks that were given, byte for byte, also where its place is another one.
+#[test]
+fn given_blocks_are_not_changed(rt: HostRuntime) -> Result<(), Fail> {
+    let alloc = rt.alloc();
+    let mut store = prepared(&rt)?;
+    store.insert("both", &encode_net(alloc, &both_net(alloc, false)?)?)?;
+    store.insert("turned", &encode_net(alloc, &both_net(alloc, true)?)?)?;
+    let cases = [
+        ("run s given 1 one a2", 0, "jobs 0\n"),
+        ("run s bearing 64 noisy loud", 0, "jobs 0\n"),
+        ("run s turned 1 cb bc", 0, "jobs 0\n"),
+        ("run s both 1 again cb", 0, "jobs 0\n"),
+    ];
+    assert_eq!(rt; first_wrong(&rt, &mut store, &cases)?, None);
+    assert!(rt; has_length(&store, "one", 2110));
+    assert!(rt; has_length(&store, "again", 12404));
+    assert!(rt; store.get("one") == store.get("a2"));
+    assert!(rt; store.get("noisy") == store.get("loud"));
+    assert!(rt; store.get("again") == store.get("bc"));
+    assert!(rt; store.get("cb") != store.get("bc"));
+    Ok(())
+}
+
+/// The status of the program for the words of a line, where the print of that number fails.
+fn status_without_print<R: Threads + Sync + AllocGlobal>(
+    rt: &R,
+    line: &str,
+    store: &mut MemStore,
+    failing: u64,
+) -> Result<u8, AllocError> {
+    let alloc = rt.alloc();
+    let mut sink = MemSink::new(alloc, vec![in alloc; failing]?);
+    run(rt, line, store, &mut sink)
+}
+
+/// The first line that does not end with status 4 where its first print fails, or with 0 where its second would.
+fn first_with_other_prints<R: Threads + Sync + AllocGlobal>(
+    rt: &R,
+    store: &mut MemStore,
+    lines: &[&str],
+) -> Result<Option<String>, AllocError> {
+    for line in lines {
+        let first = status_without_print(rt, line, store, 0)?;
+        let second = status_without_print(rt, line, store, 1)?;
+        if first != 4 || second != 0 {
+            return Ok(Some(format!(in rt.alloc(); "{line}: {first} {second}")?));
+        }
+    }
+    Ok(None)
+}
+
+#[test]
+fn each_command_prints_once(rt: HostRuntime) -> Result<(), Fail> {
+    let mut store = prepared(&rt)?;
+    let lines = [
+        "check rx-test",
+        "client rx-test Z d",
+        "keygen c U t",
+        "encrypt c U Z v in",
+        "run s given 1 o a2",
+        "decrypt c a2",
+    ];
+    assert_eq!(rt; first_with_other_prints(&rt, &mut store, &lines)?, None);
     Ok(())
 }
 

@@ -1,4 +1,4 @@
-use Rattle.std.proofs.Common.{List, ℕ, ap, refl, sym, ◌≡◌, ◌∙◌, arith, length}
+use Rattle.std.proofs.Common.{ap, refl, sym, ◌∙◌, arith}
 use Rattle.rx_lwe.specs.SwitchKeys.{SwitchRows, switch_key}
 use Rattle.rx_boot.proofs.MadeKeys.{all_words}
 use Rattle.rx_codec.proofs.Servers.{words_in-count, key_of-bytes}
