@@ -54,10 +54,8 @@ impl ServerKey {
     ) -> Result<ServerKey, AllocError>
         requires { Accepts p.now }
         ensures made { IfOk result (λ key. key ≡ server_key p.now client_seed.now mask_seed.now) }
-        ensures near { IfOk
-            result
-            (λ key. IsServerKey (small_key p.now client_seed.now)
-            (large_key p.now client_seed.now) key) }
+        ensures near { IfOk result (λ key.
+            IsServerKey (small_key p.now client_seed.now) (large_key p.now client_seed.now) key) }
     {
         let small = SecretKey::small(alloc, p, client_seed)?;
         let large = SecretKey::large(alloc, p, client_seed)?;

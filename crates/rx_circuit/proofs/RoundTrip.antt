@@ -1,6 +1,6 @@
 -- What is read is spelled so, and what is spelled so is read.
 use Rattle.std.proofs.Common.{◌≡◌, ◌==◌, ◌<◌, ◌≤◌, ◌^◌, ℕ, Bool, true, false, cond, not, ltb, ◌&&◌, List, [], ◌∷◌, ◌++◌, length, Option, Some, None, Result, Ok, Err, IsTrue, refl, sym, ap, subst, ◌∙◌, append_assoc, arith}
-use Rattle.std.specs.Prelude.{decimal, codes, IfOk}
+use Rattle.std.specs.Prelude.{decimal, codes}
 use Rattle.std.specs.List.{join_with_byte, AllByRecursion}
 use Rattle.std.specs.Str.{bytes_eq}
 use Rattle.std.specs.Cmp.Lexicographic.{nat_list_eq_equiv}
@@ -259,10 +259,6 @@ unfolding values_from
 values_again laws bytes all h = ap (λ (text : List ℕ). lines_from [] (parts_of text)) h.spelled ∙ lines_again laws [] all h.fits
 
 -- ---- what a reading answers
-
-pub found_by : (laws : TextLaws) (bytes : List ℕ) (r : Result (List ValueLine) ParseError) → Gives r (values_from bytes) → IfOk r (λ v. ValuesText bytes v)
-found_by laws bytes (Ok all) h = values_found laws bytes all h
-found_by laws bytes (Err e) h = tt
 
 pub only_by : (laws : TextLaws) (bytes : List ℕ) (r : Result (List ValueLine) ParseError) → Gives r (values_from bytes) → (all : List ValueLine) → ValuesText bytes all → Gives r (Ok all)
 only_by laws bytes r h all text = subst (λ (read : Result (List ValueLine) LineFault). Gives r read) (values_again laws bytes all text) h

@@ -96,6 +96,11 @@ abbrev pub GivesExactlyAt : {A B : Type 0} → (A → B) → ℕ → Result A Co
 GivesExactlyAt view after (Ok value) read = read ≡ Ok (view value, after)
 GivesExactlyAt view after (Err fault) read = read ≡ Err fault
 
+-- The fault is that of the reading, or where it gives something that memory was wanted: so none is wanted before all was read.
+abbrev pub IsFaultOf : {B : Type 0} → Result B CodecFault → CodecFault → Type 0
+IsFaultOf (Err fault) told = told ≡ fault
+IsFaultOf (Ok value) told = told ≡ Memory
+
 -- a file, and the place in it where a reader stands
 pub record Cursor : Type 0 where
   pub file : List ℕ

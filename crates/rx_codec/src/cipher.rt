@@ -35,7 +35,7 @@ pub struct Item {
     pub blocks: Blocks,
 }
 
-/// The numbers of a ciphertext file.
+/// The numbers of a ciphertext file. One that was read is as its parts say, and one that is to be written has to be.
 #[derive(Debug, Drop)]
 pub struct Cipher {
     /// The set of all items, which is accepted.

@@ -54,7 +54,7 @@ pub fn read_form(reader: &mut Reader, message_bits: u32) -> Result<(Kind, u32), 
     Ok((kind, bits))
 }
 
-/// Adds a name and a form. The bits are at most 64. Who writes a name knows that it is one.
+/// Adds a name and a form. The bits are at most 64. The name is one, as each `Name` is.
 pub fn write_name_and_form(
     out: &mut Vec<u8>,
     name: &Name,

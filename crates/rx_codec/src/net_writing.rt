@@ -14,7 +14,7 @@ use crate::writer::write_numbers;
 use rx_net::{Job, NetInput, NetOutput, Term};
 use std::alloc::AllocError;
 
-/// Adds the number of the inputs, and the inputs. Their names turn out to be names.
+/// Adds the number of the inputs, and the inputs. Their names are names, as each `Name` is.
 pub fn write_inputs(out: &mut Vec<u8>, inputs: &[NetInput]) -> Result<(), AllocError>
     requires few { length inputs.now ≤ 64 }
     requires short { AllByRecursion (λ (i : NetInput). i.bits ≤ 64) inputs.now }
@@ -69,7 +69,7 @@ fn write_terms(out: &mut Vec<u8>, terms: &[Term]) -> Result<(), AllocError>
     Ok(())
 }
 
-/// Adds the number of the outputs, and the outputs. Their names turn out to be names.
+/// Adds the number of the outputs, and the outputs. Their names are names, as each `Name` is.
 pub fn write_outputs(out: &mut Vec<u8>, outputs: &[NetOutput]) -> Result<(), AllocError>
     requires few { length outputs.now ≤ 64 }
     requires short { AllByRecursion (λ (o : NetOutput). o.bits ≤ 64) outputs.now }

@@ -1,9 +1,9 @@
 //! The server file: a set and the words of its server key.
-ghost use Rattle.std.specs.Prelude.{◌≡◌, ◌*◌, length, IfOk, Ok};
+ghost use Rattle.std.specs.Prelude.{◌≡◌, ◌*◌, length, IfOk, IfErr, Ok};
 ghost use Rattle.rx_params.specs.Acceptance.{Accepts};
 ghost use Rattle.rx_params.specs.Derived.{key_words as key_words_of};
 ghost use Rattle.rx_boot.specs.ServerKeys.{ServerWords};
-ghost use Rattle.rx_codec.specs.Reading.{Gives, GivesExactly};
+ghost use Rattle.rx_codec.specs.Reading.{Gives, GivesExactly, IsFaultOf};
 ghost use Rattle.rx_codec.specs.WordFields.{words_in};
 ghost use Rattle.rx_codec.specs.ServerFile.{ServerFile, ServerRead, server_from, key_of};
 
@@ -21,9 +21,10 @@ use std::alloc::{AllocError, Global};
 /// The magic and the fields of the set.
 const HEAD_SIZE: usize = 44;
 
-/// The server key that a file spells, or its first fault.
+/// The server key that a file spells, or its first fault. No memory is taken before the file was read to its end.
 pub fn decode_server(alloc: Global, bytes: &[u8]) -> Result<ServerKey, CodecFault>
     ensures exact { Gives (λ k. k) result (server_from bytes.now) }
+    ensures fault { IfErr result (IsFaultOf (server_from bytes.now)) }
     ensures found { IfOk result (λ k. ServerRead bytes.now k) }
     ensures only { (k : ServerWords) → ServerRead bytes.now k → Gives (λ k. k) result (Ok k) }
 {
@@ -31,7 +32,8 @@ pub fn decode_server(alloc: Global, bytes: &[u8]) -> Result<ServerKey, CodecFaul
 }
 
 fn read_server(alloc: Global, bytes: &[u8]) -> Result<ServerKey, CodecFault>
-    ensures { Gives (λ k. k) result (server_from bytes.now) }
+    ensures exact { Gives (λ k. k) result (server_from bytes.now) }
+    ensures fault { IfErr result (IsFaultOf (server_from bytes.now)) }
 {
     let (params, words) = read_fields(bytes)?;
     Ok(key_in(alloc, &params, words)?)

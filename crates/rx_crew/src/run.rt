@@ -30,10 +30,10 @@ pub struct RunReport {
 }
 
 /// Evaluates a legal net of the key's message bits over one block for each input cell. Where the inputs keep numbers,
-/// each cell keeps the value that the net gives it for them, and so does each output. There are 1 to 64 workers, and
-/// the board has at most `2^25` words of 64 bits. All memory is taken before the first bootstrap. So far the caller
-/// runs all jobs in order: no thread is started, whatever the number of workers is, the gate is not called, and `ran`
-/// is 0.
+/// each cell keeps the value that the net gives it for them, and so does each output. There are 1 to `MOST_WORKERS`
+/// workers, and the board (`board_words`) has at most `MOST_BOARD_WORDS` words. All memory is taken before the first
+/// bootstrap. So far the caller runs all jobs in order: no thread is started, whatever the number of workers is, the
+/// gate is not called, and `ran` is 0.
 pub fn run_net<R: Threads + Sync, G: Gate + Sync>(
     _rt: &R,
     alloc: Global,

@@ -15,7 +15,7 @@ use std::marker::Model;
 /// A secret key: one or more bits, each a word of 0 or 1. Contracts see the list of them.
 #[derive(Drop)]
 pub struct SecretKey {
-    bits: Vec<u64>,
+    pub(crate) bits: Vec<u64>,
 }
 
 impl Model for SecretKey {

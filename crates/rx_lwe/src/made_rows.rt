@@ -21,10 +21,9 @@ pub(crate) fn made_words(
     requires fields { FieldsInRange p.now }
     requires large_size { length large.now ≡ large_dim p.now }
     requires small_size { length small.now ≡ p.now.lwe_dim }
-    ensures { IfOk
-        result
-        (λ words. words.items ≡ switch_key_words p.now large.now small.now mask_seed.now
-        noise_seed.now) }
+    ensures { IfOk result (λ words.
+        words.items
+        ≡ switch_key_words p.now large.now small.now mask_seed.now noise_seed.now) }
 {
     let rows = (p.glwe_dim * p.poly_size * p.ks_level) as usize;
     let mut words = vec![in alloc; 0; rows * (p.lwe_dim as usize + 1)]?;

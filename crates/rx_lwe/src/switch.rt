@@ -66,13 +66,11 @@ impl SwitchKey {
         requires fields { FieldsInRange p.now }
         requires large_size { length large.now ≡ large_dim p.now }
         requires small_size { length small.now ≡ p.now.lwe_dim }
-        ensures made { IfOk
-            result
-            (λ key. key ≡ switch_key p.now
+        ensures made { IfOk result (λ key.
+            key ≡ switch_key p.now
             (switch_key_words p.now large.now small.now mask_seed.now noise_seed.now)) }
-        ensures near { IfOk
-            result
-            (λ key. IsSwitch
+        ensures near { IfOk result (λ key.
+            IsSwitch
             (large_dim p.now)
             p.now.lwe_dim
             p.now.ks_level

@@ -69,10 +69,6 @@ turn_at Lawful before (y ∷ ys) h zero x p e =
 turn_at Lawful before (y ∷ ys) h (suc i) x p e =
     subst (λ zs. Lawful zs x) (append_assoc before (y ∷ []) (take i ys)) (turn_at Lawful (before ++ y ∷ []) ys h.1 i x (omega arith) e)
 
-pub turn_more : {A : Type 0} (Lawful : List A → A → Type 0) (before xs : List A) (x : A) → InTurn Lawful before xs → Lawful (before ++ xs) x → InTurn Lawful before (xs ++ x ∷ [])
-turn_more Lawful before [] x h l = (subst (λ zs. Lawful zs x) (append-nil before) l, tt)
-turn_more Lawful before (y ∷ ys) x h l = (h.0, turn_more Lawful (before ++ y ∷ []) ys x h.1 (subst (λ zs. Lawful zs x) (sym (append_assoc before (y ∷ []) ys)) l))
-
 -- ---- tests
 pub all_from_test : {A : Type 0} (test : A → Bool) (P : A → Type 0) → ((x : A) → test x ≡ true → P x) → (xs : List A) → list_all test xs ≡ true → AllByRecursion P xs
 all_from_test test P says [] e = tt

@@ -23,11 +23,6 @@ unfolding laid
 laid-last step xs [] j = refl
 laid-last step xs (k ∷ js) j = laid-last step (xs ++ step k xs ∷ []) js j
 
-pub laid-append : {A : Type 0} (step : Job → List A → A) (xs : List A) (js ks : List Job) → laid step xs (js ++ ks) ≡ laid step (laid step xs js) ks
-unfolding laid
-laid-append step xs [] ks = refl
-laid-append step xs (j ∷ js) ks = laid-append step (xs ++ step j xs ∷ []) js ks
-
 pub laid_kept : {A : Type 0} (step : Job → List A → A) (xs : List A) (js : List Job) (j : Job) (d : A) (c : ℕ) → c < length xs + length js
     → get_or (laid step xs (js ++ j ∷ [])) c d ≡ get_or (laid step xs js) c d
 laid_kept step xs js j d c p =

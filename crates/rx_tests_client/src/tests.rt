@@ -230,6 +230,18 @@ fn faults_stop_a_command(rt: HostRuntime) -> Result<(), Fail> {
     Ok(())
 }
 
+/// A file is written whole before anything is printed.
+#[test]
+fn a_failed_print_leaves_the_whole_file(rt: HostRuntime) -> Result<(), Fail> {
+    let alloc = rt.alloc();
+    let mut store = encrypted(&rt)?;
+    let mut sink = MemSink::new(alloc, vec![in alloc; 0]?);
+    assert_eq!(rt; run(&rt, "encrypt c U Z v x", &mut store, &mut sink)?, 4);
+    assert!(rt; has_length(&store, "x", 8284));
+    assert!(rt; store.get("x") == store.get("out"));
+    Ok(())
+}
+
 /// The first line that does not end with the status beside it where the call of that number alone fails, or after whose
 /// status 0 the next call is not the one that fails. Its store holds a client, values, a parameter text and a ciphertext.
 fn first_wrong_after_a_fault<R: Threads + Sync + AllocGlobal>(

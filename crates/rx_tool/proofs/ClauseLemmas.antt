@@ -2,7 +2,6 @@
 use Rattle.std.proofs.Common.{◌≤◌, lit≤, ◌≡◌, ◌⊎◌, ◌≢◌, ℕ, List, [], refl, sym, ap, subst, ◌∙◌, inl, inr, arith, Some, None, Option, IfSome, IsSomeAnd, unwrap_or}
 use Rattle.std.specs.Option.{option_map}
 use Rattle.rx_store.specs.Files.{Files}
-use Rattle.rx_store.specs.Counts.{Rose}
 use Rattle.rx_codec.specs.Laws.{FileLaws}
 use Rattle.rx_client.specs.Laws.{ReadingLaws}
 use Rattle.rx_report.specs.declared.refusal.Kind.{Kind}
@@ -10,9 +9,9 @@ use Rattle.rx_report.specs.declared.refusal.Kind.TheVariants.{Malformed, NotAcce
 use Rattle.rx_tool.specs.declared.command.Command.{Command}
 use Rattle.rx_report.specs.Reports.{status_of, usage_line}
 use Rattle.rx_tool.specs.Commands.{command_refusal}
-use Rattle.rx_tool.specs.Got.{Got, whole, long, missing, got, Given, refuses, as_report, DoesAll}
-use Rattle.rx_tool.specs.World.{World, ReadFailed, WriteFailed, PrintFailed, Untouched, Faultless, Prints}
-use Rattle.rx_tool.specs.Ran.{IsMissing, Finished, Stopped, RanOut, Ran, refused, unread, no_memory, stopped, out_of_memory, finished}
+use Rattle.rx_tool.specs.Got.{Got, whole, long, missing, got, refuses, as_report, DoesAll}
+use Rattle.rx_tool.specs.World.{World, ReadFailed, WriteFailed, PrintFailed, Faultless, Prints}
+use Rattle.rx_tool.specs.Ran.{IsMissing, Finished, Stopped, Ran, refused, unread, no_memory, stopped, out_of_memory, finished}
 use Rattle.rx_tool.proofs.GotLemmas.{one_told}
 use Rattle.rx_tool.proofs.KeptFiles.{kept_passes}
 use Rattle.rx_tool.specs.Told.{IsRefusal, RefusedBy, Refuses, SaysSo, OfReading, ShortOfMemory, Accepted, LeftAlone, Complete, IsDecrypt, DecryptsKept, NeverDamaged}

@@ -1,6 +1,6 @@
 -- Damage is told by `decrypt` alone: no other command has a refusal of that kind.
-use Rattle.std.proofs.Common.{◌≡◌, ◌≢◌, ℕ, List, [], ◌∷◌, refl, sym, ap, ◌∙◌, Some, None, Option, Result, Ok, Err, IfSome, Bool, true, false, arith, unwrap_or}
-use Rattle.std.specs.Prelude.{nat_le, ◌==◌, ◌&&◌, if◌then◌else◌}
+use Rattle.std.proofs.Common.{◌≡◌, ◌≢◌, ℕ, List, [], ◌∷◌, refl, ap, Some, None, Option, Result, Ok, Err, IfSome, Bool, true, false, arith, unwrap_or}
+use Rattle.std.specs.Prelude.{if◌then◌else◌}
 use Rattle.std.specs.Option.{option_map}
 use Rattle.rx_text.specs.declared.fault.LineFault.{LineFault}
 use Rattle.rx_params.specs.declared.params.Params.{Params}
@@ -27,12 +27,12 @@ use Rattle.rx_server.specs.Inputs.{items_of, first_fault}
 use Rattle.rx_report.specs.declared.difference.Difference.{Difference}
 use Rattle.rx_report.specs.declared.refusal.Kind.{Kind}
 use Rattle.rx_report.specs.declared.refusal.Kind.TheVariants.{Malformed, NotAccepted, Mismatch, Inputs, Damaged, Limit}
-use Rattle.rx_report.specs.Reports.{Report, status_of, not_accepted, malformed_binary, mismatch, difference_of, wrong_input, wrong_width, too_long}
+use Rattle.rx_report.specs.Reports.{Report, status_of, not_accepted, malformed_binary, mismatch, difference_of, wrong_input, wrong_width}
 use Rattle.rx_tool.specs.declared.command.Source.{Source}
 use Rattle.rx_tool.specs.declared.command.Source.TheVariants.{Named, File}
 use Rattle.rx_tool.specs.declared.command.Command.{Command}
 use Rattle.rx_tool.specs.declared.command.Command.TheVariants.{Check, MakeClient, Keygen, Encrypt, Run, Decrypt}
-use Rattle.rx_tool.specs.Sources.{set_refusal, read_refusal, source_refusal}
+use Rattle.rx_tool.specs.Sources.{read_refusal, source_refusal}
 use Rattle.rx_tool.specs.Keygen.{keygen_refused, keygen_refusal}
 use Rattle.rx_tool.specs.Encrypt.{encrypt_refused, encrypt_refusal}
 use Rattle.rx_tool.specs.Refusals.{or_else, space_difference, set_difference, workers_refusal, jobs_refusal, board_refusal, limits_refusal}

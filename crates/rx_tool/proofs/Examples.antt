@@ -16,7 +16,6 @@ use Rattle.rx_net.specs.declared.net.Net.{Net}
 use Rattle.rx_net.specs.Cells.{laid, values_after}
 use Rattle.rx_net.specs.declared.net.NetInput.{NetInput}
 use Rattle.rx_params.specs.declared.kind.Kind.TheVariants.{Int}
-use Rattle.rx_boot.specs.ServerKeys.{ServerWords}
 use Rattle.rx_codec.specs.declared.client.Client.{Client}
 use Rattle.rx_codec.specs.declared.cipher.Cipher.{Cipher}
 use Rattle.rx_codec.specs.ParamsFields.{fields_at, params_at}

@@ -1,11 +1,11 @@
 -- The files that were read, and those that are left.
-use Rattle.std.proofs.Common.{◌≡◌, ◌<◌, ◌≤◌, ◌+◌, ℕ, suc, List, [], ◌∷◌, ◌++◌, refl, sym, ap, subst, ◌∙◌, length, drop, get_or, arith, Some, None, Option, Result, Ok, Err, Bool, true, false, drop-cons, append_assoc, append-nil, add-one}
+use Rattle.std.proofs.Common.{◌≡◌, ◌<◌, ◌+◌, ℕ, suc, List, [], ◌∷◌, ◌++◌, refl, sym, ap, subst, ◌∙◌, length, drop, get_or, arith, Some, None, Option, Result, Ok, Err, Bool, true, false, drop-cons, append_assoc, add-one}
 use Rattle.std.specs.Prelude.{◌==◌, if◌then◌else◌, IfOk, MatchResult, String, string_bytes}
 use Rattle.std.specs.declared.alloc.Global.{Global}
 use Rattle.std.specs.declared.alloc.AllocError.{AllocError}
 use Rattle.std.specs.Option.{option_map}
 use Rattle.std.proofs.lemmas.Bool.{eqb-true}
-use Rattle.std.proofs.lemmas.List.{drop_all, length-map, get_or-map}
+use Rattle.std.proofs.lemmas.List.{length-map, get_or-map}
 use Rattle.rx_params.specs.declared.params.Params.{Params}
 use Rattle.rx_params.specs.Text.{fields_of}
 use Rattle.rx_codec.specs.declared.fault.CodecFault.{CodecFault}
@@ -64,16 +64,6 @@ stopped_at names files place ciphers name file report so p e q f stops =
     at_once : (name : List ℕ) (read : Result Cipher CodecFault) (later : Option Report) (report : Report) → one_malformed name read None ≡ Some report → one_malformed name read later ≡ Some report
     at_once name (Ok c) later report e = absurd cc
     at_once name (Err fault) later report e = e
-
-pub all_read : (names files : List (List ℕ)) (place : ℕ) (ciphers : List Cipher) → ReadSoFar names files place ciphers → length files ≤ place → length files ≡ length names
-    → (malformed_input names files ≡ None) × (ciphers ≡ ciphers_of files) × AreCiphers files ciphers
-all_read names files place ciphers so p same =
-    let ns : drop place names ≡ [] = drop_all place names (omega (arith, p, same)) in
-    let fs : drop place files ≡ [] = drop_all place files p in (
-      sym so.refusal ∙ ap (λ xs. malformed_input xs (drop place files)) ns,
-      sym (append-nil ciphers) ∙ sym (ap (λ ys. ciphers ++ ciphers_of ys) fs) ∙ so.values,
-      subst (AreCiphers files) (append-nil ciphers) (so.are [] (subst (λ ys. AreCiphers ys []) (sym fs) tt)),
-    )
 
 -- ---- the ciphers that were compared with a set
 

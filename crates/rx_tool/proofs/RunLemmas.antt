@@ -8,9 +8,8 @@ use Rattle.rx_tool.specs.declared.outcome.Stop.{Stop}
 use Rattle.rx_tool.specs.declared.outcome.Stop.TheVariants.{Refused, Read, Memory}
 use Rattle.rx_report.specs.Reports.{status_of, too_long, usage_line}
 use Rattle.rx_tool.specs.Commands.{reads_of, command_refusal, Does}
-use Rattle.rx_tool.specs.World.{World, world}
+use Rattle.rx_tool.specs.World.{world}
 use Rattle.rx_tool.specs.Got.{Got, whole, long, got_all, MayGive, Given, refuses, as_report, ReadsAll}
-use Rattle.rx_tool.specs.Left.{told_written, MadeWhole, TornAt}
 use Rattle.rx_tool.specs.Answers.{Answers}
 use Rattle.rx_tool.specs.Ends as ends
 use Rattle.rx_tool.specs.Ends.{ReportGives, GivesUp, Performs, at_write, at_put, short_of_memory}

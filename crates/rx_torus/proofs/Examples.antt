@@ -7,7 +7,6 @@ use Rattle.rand_core.specs.Steps.{u32_at}
 use Rattle.rand_chacha.specs.Block.{quarter_round, column_round, diagonal_round, double_rounds, block_word}
 use Rattle.rx_torus.specs.Streams.{torus_at, torus_word, draw, uniform, drawn_by, stream_of}
 use Rattle.rx_torus.specs.Kinds.{stream_number}
-use Rattle.rx_torus.specs.Overwritten.{overwritten}
 
 -- the two ends of a draw have one word each, the others two
 uniform-ends : (uniform 17 0 ≡ negsuc 131071) × (uniform 17 1 ≡ negsuc 131070) × (uniform 17 2 ≡ negsuc 131070) × (uniform 17 524286 ≡ pos 131071) × (uniform 17 524287 ≡ pos 131072)
@@ -48,10 +47,6 @@ last_draw = refl
 
 two_draws : drawn_by 2 (drawn_by 1 (stream_of [] 5)) ≡ drawn_by 3 (stream_of [] 5)
 two_draws = refl
-
--- the length stays
-overwritten-lengths : (overwritten (1 ∷ 2 ∷ 3 ∷ []) (9 ∷ []) ≡ 9 ∷ 2 ∷ 3 ∷ []) × (overwritten (1 ∷ []) (8 ∷ 9 ∷ []) ≡ 8 ∷ [])
-overwritten-lengths = (refl, refl)
 
 -- the published key stream of the zero key
 published : (torus_word (replicate 32 0) 0 0 ≡ 0x903d_f1a0_ade0_b876) × (torus_word (replicate 32 0) 0 1 ≡ 0x28bd_8653_e56a_5d40)

@@ -1,7 +1,7 @@
 use Rattle.std.proofs.Common.{rules, ◌≡◌, pos, ◌-◌, int_lt, Bool, true, false, length, ℕ, ℤ, List, to_z, of_z, ap, ◌∙◌, sym, refl, arith}
 use Rattle.std.proofs.lemmas.Int.{to_z-of_z}
 use Rattle.rx_laws.specs.Decode.{plaintexts}
-use Rattle.rx_torus.proofs.Overwritten.{overwritten-all}
+use Rattle.rx_list.proofs.Overwritten.{overwritten-all}
 use Rattle.rx_net.specs.declared.term.Term.{Term}
 use Rattle.rx_net.specs.Tags.{low_of, high_of, noise_of}
 use Rattle.rx_block.specs.Combine.{mixed_words, degree_in, noise_in}

@@ -1,5 +1,5 @@
 use Rattle.std.proofs.Common.{◌≡◌, List, ℕ, ◌++◌, length, take, drop, ap, ◌∙◌, arith}
-use Rattle.rx_torus.proofs.Overwritten.{overwritten-all}
+use Rattle.rx_list.proofs.Overwritten.{overwritten-all}
 use Rattle.rx_net.specs.Tags.{greatest_between}
 use Rattle.rx_boot.specs.ServerKeys.{ServerWords}
 use Rattle.rx_boot.specs.Bootstrap.{bootstrapped}

@@ -1,6 +1,6 @@
 use Rattle.std.proofs.Common.{ℕ, ◌<◌, ◌^◌, List, length, sym, subst, ◌∙◌, ap}
 use Rattle.std.specs.Prelude.{EachIndex, slice_index}
-use Rattle.rx_torus.proofs.Overwritten.{overwritten-all}
+use Rattle.rx_list.proofs.Overwritten.{overwritten-all}
 use Rattle.rx_crew.proofs.blocks.copy_block.Goals as goal
 
 pub returns-clause-words : goal.returns-clause-words
