@@ -5,10 +5,13 @@
 
 mod decrypt;
 mod encrypt;
+mod fresh_items;
 mod laws;
 #[cfg(test)]
 mod tests;
+mod widths;
 
 pub use decrypt::{Damage, DecryptError, decrypt_items};
-pub use encrypt::{encrypt_cipher, encrypt_values, wrong_width_in};
+pub use encrypt::{encrypt_cipher, encrypt_values};
 pub use laws::{encrypting_laws, reading_laws};
+pub use widths::wrong_width_in;

@@ -22,7 +22,11 @@ GivesUp Memory before faults after now status = (status ≡ 11) × (after ≡ be
 -- Writing some files and then printing some lines: all of it; or a write failed, and no line was printed; or
 -- the printing failed after all writes; or memory ran out after whole writes, and no line was printed.
 pub data Performs (writes : List (List ℕ × List ℕ)) (lines : List ℕ) (before after : World) (status : ℕ) : Type 0 where
-  whole : status ≡ 0 → after.files ≡ told_written writes before.files → Appends before.printed after.printed lines → Performs writes lines before after status
-  at_write : (made : ℕ) → status ≡ 4 → WriteFailed before after → TornAt writes before.files after.files made → after.printed ≡ before.printed → Performs writes lines before after status
-  at_put : status ≡ 4 → PrintFailed before after → after.files ≡ told_written writes before.files → AppendsPart before.printed after.printed lines → Performs writes lines before after status
-  short_of_memory : (made : ℕ) → status ≡ 11 → MadeWhole writes before.files after.files made → after.printed ≡ before.printed → Performs writes lines before after status
+  whole : status ≡ 0 → after.files ≡ told_written writes before.files →
+      Appends before.printed after.printed lines → Performs writes lines before after status
+  at_write : (made : ℕ) → status ≡ 4 → WriteFailed before after → TornAt writes before.files after.files made →
+      after.printed ≡ before.printed → Performs writes lines before after status
+  at_put : status ≡ 4 → PrintFailed before after → after.files ≡ told_written writes before.files →
+      AppendsPart before.printed after.printed lines → Performs writes lines before after status
+  short_of_memory : (made : ℕ) → status ≡ 11 → MadeWhole writes before.files after.files made →
+      after.printed ≡ before.printed → Performs writes lines before after status

@@ -1,6 +1,6 @@
 use Rattle.std.proofs.Common.{◌≡◌, drop}
 use Rattle.rx_client.specs.Encrypt.{first_width}
-use Rattle.rx_client.proofs.encrypt.wrong_width_in.Given as goal
+use Rattle.rx_client.proofs.widths.wrong_width_in.Given as goal
 
 -- no line so far has a wrong width
 abbrev pub invariant-loop-line : goal.invariant-loop-line
