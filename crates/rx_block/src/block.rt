@@ -25,7 +25,7 @@ pub struct Tags {
 #[derive(Clone, Copy, Debug, PartialEq, Eq, thiserror::Error)]
 #[error("decoded {decoded} above the degree {degree}")]
 pub struct Damaged {
-    /// The number, below `4^message_bits`.
+    /// The number, below `2 * 4^message_bits`.
     pub decoded: u32,
     /// The degree of the block.
     pub degree: u8,

@@ -4,6 +4,7 @@ ghost use Rattle.std.specs.Int.RustNames.{unsigned_abs};
 ghost use Rattle.rx_laws.specs.Decode.{plaintexts};
 ghost use Rattle.rx_params.specs.Acceptance.{FieldsInRange};
 ghost use Rattle.rx_params.specs.Derived.{large_dim};
+ghost use Rattle.rx_net.specs.Limits.{most_terms};
 ghost use Rattle.rx_net.specs.Tags.{negative_part, positive_part, low_of, high_of, noise_of};
 ghost use Rattle.rx_block.specs.Combine.{AreCellsOf, AreBlocksOf, combined, mixed_words, degree_in, noise_in};
 ghost use Rattle.rx_block.specs.Noise.{KeepsSum};
@@ -26,7 +27,7 @@ pub fn combine(
     out: &mut Block,
 ) -> Result<(), TagFault>
     requires fields { FieldsInRange p.now }
-    requires few { length terms.now ≤ 16 }
+    requires few { length terms.now ≤ most_terms }
     requires cells { AreCellsOf blocks.now terms.now }
     requires words { AreBlocksOf p.now blocks.now }
     requires room { length out.old.words ≡ large_dim p.now + 1 }
@@ -80,7 +81,7 @@ pub fn mix_into(p: &Params, blocks: &[Block], terms: &[Term], constant: i16, out
 
 /// What the tags of blocks say of a weighted sum of them.
 fn tag_sums(blocks: &[Block], terms: &[Term], constant: i16) -> TagSums
-    requires few { length terms.now ≤ 16 }
+    requires few { length terms.now ≤ most_terms }
     requires cells { AreCellsOf blocks.now terms.now }
     ensures low { result.low ≡ low_of (degree_in blocks.now) constant terms.now }
     ensures high { result.high ≡ high_of (degree_in blocks.now) constant terms.now }

@@ -67,8 +67,8 @@ impl CipherWriter {
 
     /// Adds a block: its degree and its noise tag, a byte each, and the lent words, eight bytes each.
     pub fn block(&mut self, words: &[u64], tags: Tags) -> Result<(), AllocError>
-        ensures { OnOk result (self.new ≡ self.old
-            ++ block_bytes (record { words = words.now; degree = tags.degree; noise = tags.noise })) }
+        ensures { OnOk result (self.new ≡ self.old ++ block_bytes
+            (record { words = words.now; degree = tags.degree; noise = tags.noise })) }
     {
         self.bytes.push(tags.degree)?;
         self.bytes.push(tags.noise)?;

@@ -6,6 +6,7 @@ ghost use Rattle.rx_text.specs.Names.{is_name};
 ghost use Rattle.rx_net.specs.declared.net.Job.{Job};
 ghost use Rattle.rx_net.specs.declared.net.NetInput.{NetInput};
 ghost use Rattle.rx_net.specs.declared.net.NetOutput.{NetOutput};
+ghost use Rattle.rx_net.specs.Limits.{most_inputs, most_outputs, most_terms};
 ghost use Rattle.rx_codec.specs.Reading.{list_bytes};
 ghost use Rattle.rx_codec.specs.NetFile.{input_bytes, term_bytes, job_bytes, output_bytes};
 
@@ -16,7 +17,7 @@ use std::alloc::AllocError;
 
 /// Adds the number of the inputs, and the inputs. Their names are names, as each `Name` is.
 pub fn write_inputs(out: &mut Vec<u8>, inputs: &[NetInput]) -> Result<(), AllocError>
-    requires few { length inputs.now ≤ 64 }
+    requires few { length inputs.now ≤ most_inputs }
     requires short { AllByRecursion (λ (i : NetInput). i.bits ≤ 64) inputs.now }
     ensures value { OnOk result (out.new.items ≡ out.old.items
         ++ list_bytes w16 input_bytes inputs.now) }
@@ -35,7 +36,7 @@ pub fn write_inputs(out: &mut Vec<u8>, inputs: &[NetInput]) -> Result<(), AllocE
 /// Adds the number of the jobs, and the jobs.
 pub fn write_jobs(out: &mut Vec<u8>, jobs: &[Job]) -> Result<(), AllocError>
     requires few { length jobs.now < 2 ^ 32 }
-    requires short { AllByRecursion (λ (j : Job). length j.terms ≤ 16) jobs.now }
+    requires short { AllByRecursion (λ (j : Job). length j.terms ≤ most_terms) jobs.now }
     ensures { OnOk result (out.new.items ≡ out.old.items ++ list_bytes w32 job_bytes jobs.now) }
 {
     out.extend_from_slice(&(jobs.len() as u32).to_le_bytes())?;
@@ -46,7 +47,7 @@ pub fn write_jobs(out: &mut Vec<u8>, jobs: &[Job]) -> Result<(), AllocError>
 }
 
 fn write_job(out: &mut Vec<u8>, job: &Job) -> Result<(), AllocError>
-    requires { length job.now.terms ≤ 16 }
+    requires { length job.now.terms ≤ most_terms }
     ensures { OnOk result (out.new.items ≡ out.old.items ++ job_bytes job.now) }
 {
     write_terms(out, job.terms.as_slice())?;
@@ -57,7 +58,7 @@ fn write_job(out: &mut Vec<u8>, job: &Job) -> Result<(), AllocError>
 }
 
 fn write_terms(out: &mut Vec<u8>, terms: &[Term]) -> Result<(), AllocError>
-    requires { length terms.now ≤ 16 }
+    requires { length terms.now ≤ most_terms }
     ensures { OnOk result (out.new.items ≡ out.old.items
         ++ (length terms.now ∷ flat_map term_bytes terms.now)) }
 {
@@ -71,7 +72,7 @@ fn write_terms(out: &mut Vec<u8>, terms: &[Term]) -> Result<(), AllocError>
 
 /// Adds the number of the outputs, and the outputs. Their names are names, as each `Name` is.
 pub fn write_outputs(out: &mut Vec<u8>, outputs: &[NetOutput]) -> Result<(), AllocError>
-    requires few { length outputs.now ≤ 64 }
+    requires few { length outputs.now ≤ most_outputs }
     requires short { AllByRecursion (λ (o : NetOutput). o.bits ≤ 64) outputs.now }
     ensures value { OnOk result (out.new.items ≡ out.old.items
         ++ list_bytes w16 output_bytes outputs.now) }

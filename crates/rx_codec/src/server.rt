@@ -43,8 +43,8 @@ fn read_server(alloc: Global, bytes: &[u8]) -> Result<ServerKey, CodecFault>
 /// taken.
 #[tactic(auto, unfolding(crate::specs::ServerFile::server_from, crate::specs::WordFields::words_at))]
 fn read_fields(bytes: &[u8]) -> Result<(Params, &[u8]), CodecFault>
-    ensures value { GivesExactly (λ f. key_of f.0 (words_in (key_words_of f.0) f.1.now)) result
-        (server_from bytes.now) }
+    ensures value { GivesExactly (λ f. key_of f.0 (words_in (key_words_of f.0) f.1.now))
+        result (server_from bytes.now) }
     ensures accepted { IfOk result (λ f. Accepts f.0) }
     ensures size { IfOk result (λ f. length f.1.now ≡ 8 * key_words_of f.0) }
 {

@@ -79,8 +79,7 @@ fn look_up(scratch: &mut BootScratch, key: &ServerKey, job: &Job, sum: &[u64], c
     requires size { length cell.old.words ≡ large_dim key.now.params + 1 }
     ensures cell { cell.new ≡ record {
       words = bootstrapped key.now job.now.table sum.now;
-      degree =
-          job.now.degree;
+      degree = job.now.degree;
       noise = 1;
     } }
     ensures room_stays { scratch.new ≡ key.now.params }

@@ -7,6 +7,7 @@ use Rattle.rx_torus.specs.Streams.{stream_of}
 use Rattle.rx_torus.specs.Kinds.{stream_number}
 use Rattle.rx_torus.specs.declared.kind.StreamKind.TheVariants.{SwitchMask, SwitchNoise}
 use Rattle.rx_params.specs.declared.params.Params.{Params}
+use Rattle.rx_params.specs.Acceptance.{most_levels}
 use Rattle.rx_params.specs.Derived.{large_dim}
 use Rattle.rx_lwe.specs.Lwe.{encrypted}
 
@@ -25,7 +26,7 @@ pub record IsSized (s : SwitchRows) : Type 0 where
   pub base_low : 1 ≤ s.base_log
   pub base_high : s.base_log ≤ 24
   pub levels_low : 1 ≤ s.levels
-  pub levels_high : s.levels ≤ 30
+  pub levels_high : s.levels ≤ most_levels
   pub digits : s.base_log * s.levels ≤ 60
   pub count : length s.words ≡ s.big * s.levels * (s.small + 1)
 

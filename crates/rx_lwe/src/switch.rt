@@ -36,8 +36,7 @@ impl Model for SwitchKey {
       big = k.big;
       small = k.small;
       base_log = k.base_log;
-      levels =
-          k.levels;
+      levels = k.levels;
       words = k.words;
     } };
 
@@ -46,8 +45,7 @@ impl Model for SwitchKey {
       small = k.small;
       base_log = k.base_log;
       levels = k.levels;
-      words =
-          k.words;
+      words = k.words;
     }) };
 }
 

@@ -11,6 +11,10 @@ use Rattle.rx_params.specs.Derived.{key_words, left_of, right_of, bounds_of}
 abbrev pub IsWithin : ℕ → ℕ → ℕ → Type 0
 IsWithin low high n = (low ≤ n) × (n ≤ high)
 
+-- the most levels of digits
+abbrev pub most_levels : ℕ
+most_levels = 30
+
 -- each field is within its limit; the greatest size of a key stands apart
 pub record FieldsInRange (p : Params) : Type 0 where
   pub message_bits : (p.message_bits ≡ 2) ⊎ (p.message_bits ≡ 3)
@@ -18,9 +22,9 @@ pub record FieldsInRange (p : Params) : Type 0 where
   pub poly_size : (log : ℕ) × IsWithin 6 12 log × (p.poly_size ≡ 2 ^ log)
   pub lwe_dim : IsWithin 1 1024 p.lwe_dim
   pub pbs_base_log : IsWithin 1 24 p.pbs_base_log
-  pub pbs_level : IsWithin 1 30 p.pbs_level × (p.pbs_base_log * p.pbs_level ≤ 60)
+  pub pbs_level : IsWithin 1 most_levels p.pbs_level × (p.pbs_base_log * p.pbs_level ≤ 60)
   pub ks_base_log : IsWithin 1 24 p.ks_base_log
-  pub ks_level : IsWithin 1 30 p.ks_level × (p.ks_base_log * p.ks_level ≤ 60)
+  pub ks_level : IsWithin 1 most_levels p.ks_level × (p.ks_base_log * p.ks_level ≤ 60)
   pub glwe_bound : p.glwe_bound ≤ 40
   pub lwe_bound : p.lwe_bound ≤ 40
 
@@ -47,9 +51,9 @@ limited p =
     ∷ (p.poly_size, is_poly_size p.poly_size)
     ∷ (p.lwe_dim, is_within 1 1024 p.lwe_dim)
     ∷ (p.pbs_base_log, is_within 1 24 p.pbs_base_log)
-    ∷ (p.pbs_level, is_within 1 30 p.pbs_level && nat_le (p.pbs_base_log * p.pbs_level) 60)
+    ∷ (p.pbs_level, is_within 1 most_levels p.pbs_level && nat_le (p.pbs_base_log * p.pbs_level) 60)
     ∷ (p.ks_base_log, is_within 1 24 p.ks_base_log)
-    ∷ (p.ks_level, is_within 1 30 p.ks_level && nat_le (p.ks_base_log * p.ks_level) 60)
+    ∷ (p.ks_level, is_within 1 most_levels p.ks_level && nat_le (p.ks_base_log * p.ks_level) 60)
     ∷ (p.glwe_bound, nat_le p.glwe_bound 40)
     ∷ (p.lwe_bound, nat_le p.lwe_bound 40)
     ∷ (key_words p, nat_le (key_words p) (2 ^ 24))

@@ -1,7 +1,7 @@
 //! The worst-case sums of a parameter set, and the check that it is accepted.
 ghost use Rattle.std.specs.Prelude.{◌≡◌, ◌↔◌, ℕ, ◌+◌, ◌*◌, ◌^◌, ◌<◌, ◌≤◌, ◌&&◌, IsOk, IfErr, IsTrue, Some, nat_le, take};
 ghost use Rattle.rx_params.specs.Derived.{key_words, left_of, right_of, bounds_of, large_dim, rest_of, step_of, boot_of, base_of, switch_of, round_of};
-ghost use Rattle.rx_params.specs.Acceptance.{Accepts, FieldsInRange, checked, refusal_of, limited, is_within, is_poly_size};
+ghost use Rattle.rx_params.specs.Acceptance.{Accepts, FieldsInRange, checked, refusal_of, limited, is_within, is_poly_size, most_levels};
 ghost use Rattle.rx_laws.specs.Decode.{plaintexts};
 
 use crate::Params;
@@ -129,7 +129,7 @@ fn is_poly_size(n: u32) -> bool
 
 /// Whether a word may have that many digits of that many bits.
 fn are_digits(base_log: u32, level: u32) -> bool
-    ensures { result ≡ (is_within 1 30 level && nat_le (base_log * level) 60) }
+    ensures { result ≡ (is_within 1 most_levels level && nat_le (base_log * level) 60) }
 {
     is_within(1, MOST_LEVELS, level) && base_log.saturating_mul(level) <= 60
 }

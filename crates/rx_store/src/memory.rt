@@ -58,8 +58,7 @@ impl Model for MemStore {
       read_faults = s.read_faults;
       write_faults = s.write_faults;
       next_call = s.calls.next;
-      failing =
-          s.calls.failing.items;
+      failing = s.calls.failing.items;
     } };
 }
 

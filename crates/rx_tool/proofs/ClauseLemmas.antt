@@ -16,10 +16,7 @@ use Rattle.rx_tool.proofs.GotLemmas.{one_told}
 use Rattle.rx_tool.proofs.KeptFiles.{kept_passes}
 use Rattle.rx_tool.specs.Told.{IsRefusal, RefusedBy, Refuses, SaysSo, OfReading, ShortOfMemory, Accepted, LeftAlone, Complete, IsDecrypt, DecryptsKept, NeverDamaged}
 use Rattle.rx_tool.specs.Outcome.{IsOutcome}
-use Rattle.rx_tool.proofs.DamageLemmas.{of_decrypt}
-
-same_status : (a b : ℕ) (l m : List ℕ) → ◌≡◌ {A = Option (ℕ × List ℕ)} (Some (a, l)) (Some (b, m)) → a ≡ b
-same_status a b l m e = ap (λ o. (unwrap_or {T = ℕ × List ℕ} o (a, l)).0) e
+use Rattle.rx_tool.proofs.DamageLemmas.{same_status, of_decrypt}
 
 same_line : (a b : ℕ) (l m : List ℕ) → ◌≡◌ {A = Option (ℕ × List ℕ)} (Some (a, l)) (Some (b, m)) → l ≡ m
 same_line a b l m e = ap (λ o. (unwrap_or {T = ℕ × List ℕ} o (a, l)).1) e

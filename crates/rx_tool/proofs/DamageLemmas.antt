@@ -1,7 +1,7 @@
 -- Damage is told by `decrypt` alone: no other command has a refusal of that kind.
 use Rattle.std.proofs.Common.{◌≡◌, ◌≢◌, ℕ, List, [], ◌∷◌, refl, ap, Some, None, Option, Result, Ok, Err, IfSome, Bool, true, false, arith, unwrap_or}
 use Rattle.std.specs.Prelude.{if◌then◌else◌}
-use Rattle.std.specs.Option.{option_map}
+use Rattle.std.specs.Option.{option_map, option_or}
 use Rattle.rx_text.specs.declared.fault.LineFault.{LineFault}
 use Rattle.rx_params.specs.declared.params.Params.{Params}
 use Rattle.rx_params.specs.declared.bounds.Refused.{Refused}
@@ -35,7 +35,7 @@ use Rattle.rx_tool.specs.declared.command.Command.TheVariants.{Check, MakeClient
 use Rattle.rx_tool.specs.Sources.{read_refusal, source_refusal}
 use Rattle.rx_tool.specs.Keygen.{keygen_refused, keygen_refusal}
 use Rattle.rx_tool.specs.Encrypt.{encrypt_refused, encrypt_refusal}
-use Rattle.rx_tool.specs.Refusals.{or_else, space_difference, set_difference, workers_refusal, jobs_refusal, board_refusal, limits_refusal}
+use Rattle.rx_tool.specs.Refusals.{space_difference, set_difference, workers_refusal, jobs_refusal, board_refusal, limits_refusal}
 use Rattle.rx_tool.specs.Run.{one_malformed, malformed_input, ciphers_of, inputs_refusal, values_refusal, run_refused, run_refusal}
 use Rattle.rx_tool.specs.Commands.{command_refusal}
 use Rattle.rx_tool.specs.Got.{Got, whole, long, missing, as_report, refuses}
@@ -47,7 +47,7 @@ NotDamage refusal = IfSome refusal (λ report. report.0 ≢ Damaged)
 
 -- ---- the parts of refusals
 
-either : (first later : Option Report) → NotDamage first → NotDamage later → NotDamage (or_else first later)
+either : (first later : Option Report) → NotDamage first → NotDamage later → NotDamage (option_or first later)
 either (Some report) later p q = p
 either None later p q = q
 
@@ -96,7 +96,7 @@ of_sets p (name ∷ names) (c ∷ ciphers) =
 
 of_limits : (p : Params) (workers jobs : ℕ) → NotDamage (limits_refusal p workers jobs)
 of_limits p workers jobs =
-    either (workers_refusal workers) (or_else (jobs_refusal jobs) (board_refusal p jobs)) (of_test _ _ (λ e. cc))
+    either (workers_refusal workers) (option_or (jobs_refusal jobs) (board_refusal p jobs)) (of_test _ _ (λ e. cc))
     (either (jobs_refusal jobs) (board_refusal p jobs) (of_test _ _ (λ e. cc)) (of_test _ _ (λ e. cc)))
 
 -- ---- the commands
@@ -168,7 +168,7 @@ of_kind Inputs nine = absurd (omega arith)
 of_kind Damaged nine = refl
 of_kind Limit nine = absurd (omega arith)
 
-same_status : (a b : ℕ) (l m : List ℕ) → ◌≡◌ {A = Option (ℕ × List ℕ)} (Some (a, l)) (Some (b, m)) → a ≡ b
+pub same_status : (a b : ℕ) (l m : List ℕ) → ◌≡◌ {A = Option (ℕ × List ℕ)} (Some (a, l)) (Some (b, m)) → a ≡ b
 same_status a b l m e = ap (λ o. (unwrap_or {T = ℕ × List ℕ} o (a, l)).0) e
 
 other_status : (refusal : Option Report) (line : List ℕ) → NotDamage refusal → option_map as_report refusal ≡ Some (9, line) → ⊥

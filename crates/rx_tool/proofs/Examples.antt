@@ -177,6 +177,6 @@ exchange = record {
 }
 
 exchanged : (plain_digits 2 exchange.inputs (value (codes "other") 3 ∷ value (codes "nine") 9 ∷ []) ≡ 1 ∷ 2 ∷ [])
-    × (plain_lines 2 exchange (value (codes "other") 3 ∷ value (codes "nine") 9 ∷ []) ≡ codes "s 6" ++ 10 ∷ [])
+    × (plain_lines exchange (value (codes "other") 3 ∷ value (codes "nine") 9 ∷ []) ≡ codes "s 6" ++ 10 ∷ [])
 unfolding digits laid values_after
 exchanged = (refl, refl)

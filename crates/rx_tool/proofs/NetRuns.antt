@@ -3,6 +3,7 @@ use Rattle.std.proofs.Common.{◌≡◌, ◌≤◌, ℕ, List, [], ◌∷◌, le
 use Rattle.std.specs.Prelude.{◌-◌, String, string_bytes}
 use Rattle.std.specs.declared.alloc.Global.{Global}
 use Rattle.std.proofs.lemmas.List.{take_all, length-map}
+use Rattle.std.specs.Option.{option_or}
 use Rattle.rx_params.specs.declared.params.Params.{Params}
 use Rattle.rx_params.specs.Acceptance.{Accepts}
 use Rattle.rx_net.specs.declared.net.NetOutput.{NetOutput}
@@ -27,7 +28,6 @@ use Rattle.rx_server.specs.Laws.{AreCellBlocks, ServerLaws}
 use Rattle.rx_tool.specs.declared.outcome.Stop.{Stop}
 use Rattle.rx_tool.specs.Answers.{StopsFor}
 use Rattle.rx_tool.specs.Words.{texts}
-use Rattle.rx_tool.specs.Refusals.{or_else}
 use Rattle.rx_tool.specs.Run.{AreCipherValues, AreCiphers, MayRun, HasJobTags, ciphers_of, jobs_line, malformed_input, input_blocks, evaluation, run_refused, run_refusal, values_refusal, KeepsRun, KeepsItems, RunsOver, RunDoes}
 use Rattle.rx_tool.proofs.RunInputs.{of_set, length-ciphers}
 use Rattle.rx_tool.proofs.EvaluatedBlocks.{are_inputs, evaluated_fit}
@@ -112,8 +112,8 @@ module _ (server net out : List ℕ) (workers : ℕ) (names files : List (List �
       ap (run_refusal server net workers names) e
       ∙ ap (λ r. run_refused server net workers names r (net_from n) rest) key
       ∙ ap (λ r. run_refused server net workers names (Ok k) r rest) legal
-      ∙ sym (ap (λ ws. or_else (malformed_input ws rest) (values_refusal k.params net m workers ws (ciphers_of rest))) same_words)
-      ∙ ap (λ r. or_else r (values_refusal k.params net m workers words (ciphers_of rest))) read.0
+      ∙ sym (ap (λ ws. option_or (malformed_input ws rest) (values_refusal k.params net m workers ws (ciphers_of rest))) same_words)
+      ∙ ap (λ r. option_or r (values_refusal k.params net m workers words (ciphers_of rest))) read.0
       ∙ sym (ap (λ q. values_refusal q net m workers words (ciphers_of rest)) same_set)
       ∙ sym (ap (λ name. values_refusal p name m workers words (ciphers_of rest)) same_net)
       ∙ sym (ap (values_refusal p net_name m workers words) (same ∙ read.1.0))

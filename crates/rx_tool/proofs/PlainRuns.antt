@@ -17,7 +17,7 @@ use Rattle.rx_client.specs.Decrypt.{named_line, kept_lines}
 use Rattle.rx_server.specs.Inputs.{items_of, digits_named, digits_found}
 use Rattle.rx_net.specs.Numbers.{number_of, values_of}
 use Rattle.rx_server.specs.Outputs.{output_item}
-use Rattle.rx_tool.specs.WholeWay.{Batch, batch_ciphers, batch_lines, batch_digits, digits_over, plain_digits, plain_lines}
+use Rattle.rx_tool.specs.WholeWay.{Batch, batch_ciphers, batch_lines, batch_digits, digits_over, plain_digits, lines_of, plain_lines}
 
 -- the digits of the lines of a name
 abbrev line_found : ℕ → List ℕ → List ValueLine → List ℕ
@@ -87,18 +87,21 @@ inputs_plain c (i ∷ inputs) batches =
 
 outputs_plain : (m : ℕ) (cells : List Block) (values : List ℕ) (outputs : List NetOutput) →
     kept_lines m (map (output_item cells) outputs) (map (values_of values) outputs)
-    ≡ flat_map (λ (o : NetOutput). named_line o.name (number_of m (values_of values o))) outputs
+    ≡ lines_of (map (λ (o : NetOutput). o.name) outputs) (map (λ (o : NetOutput). number_of m (values_of values o)) outputs)
 outputs_plain m cells values [] = refl
 outputs_plain m cells values (o ∷ outputs) =
     ap (λ text. named_line o.name (number_of m (values_of values o)) ++ text) (outputs_plain m cells values outputs)
 
 -- the lines that are kept over the cells of a run are the plain ones
-pub run_plain : (c : Client) (net : Net) (cells : List Block) (batches : List Batch) →
+pub run_plain : (c : Client) (net : Net) (cells : List Block) (batches : List Batch) → net.space ≡ c.params.message_bits →
     kept_lines c.params.message_bits (map (output_item cells) net.outputs) (digits_over c net batches)
-    ≡ plain_lines c.params.message_bits net (batch_lines batches)
-run_plain c net cells batches =
+    ≡ plain_lines net (batch_lines batches)
+run_plain c net cells batches space =
     let m : ℕ = c.params.message_bits in
+    let lines : List ValueLine = batch_lines batches in
     let digits : List ℕ = digits_found net.inputs (items_of (batch_ciphers c batches)) (batch_digits m batches) in
+    let lines_with : ℕ → List ℕ → List ℕ = λ k ds. lines_of (map (λ (o : NetOutput). o.name) net.outputs)
+    (map (λ (o : NetOutput). number_of k (values_of (values_after ds net.jobs) o)) net.outputs) in
     outputs_plain m cells (values_after digits net.jobs) net.outputs
-    ∙ ap (λ ds. flat_map (λ (o : NetOutput). named_line o.name (number_of m (values_of (values_after ds net.jobs) o))) net.outputs)
-    (inputs_plain c net.inputs batches)
+    ∙ ap (lines_with m) (inputs_plain c net.inputs batches)
+    ∙ ap (λ k. lines_with k (plain_digits k net.inputs lines)) (sym space)

@@ -3,7 +3,7 @@ use Rattle.std.proofs.Common.{◌≡◌, ◌<◌, ◌+◌, ℕ, suc, List, [], �
 use Rattle.std.specs.Prelude.{◌==◌, if◌then◌else◌, IfOk, MatchResult, String, string_bytes}
 use Rattle.std.specs.declared.alloc.Global.{Global}
 use Rattle.std.specs.declared.alloc.AllocError.{AllocError}
-use Rattle.std.specs.Option.{option_map}
+use Rattle.std.specs.Option.{option_map, option_or}
 use Rattle.std.proofs.lemmas.Bool.{eqb-true}
 use Rattle.std.proofs.lemmas.List.{length-map, get_or-map}
 use Rattle.rx_params.specs.declared.params.Params.{Params}
@@ -19,7 +19,7 @@ use Rattle.rx_tool.specs.declared.outcome.Stop.{Stop}
 use Rattle.rx_tool.specs.declared.outcome.Stop.TheVariants.{Refused, Read, Memory}
 use Rattle.rx_tool.specs.Answers.{StopsFor}
 use Rattle.rx_tool.specs.Words.{texts}
-use Rattle.rx_tool.specs.Refusals.{or_else, set_difference}
+use Rattle.rx_tool.specs.Refusals.{set_difference}
 use Rattle.rx_tool.specs.Run.{AreCiphers, AreCipherValues, AreOfSet, cipher_before, ciphers_of, malformed_input, one_malformed}
 
 -- the first files were read, and gave these ciphers
@@ -94,7 +94,7 @@ one_same p names ciphers place c found so l m f is none =
     let cs : drop place ciphers ≡ c ∷ drop (place + 1) ciphers = next ciphers place c m f in
     let later : Option Report = set_difference p (drop (place + 1) names) (drop (place + 1) ciphers) in
     record {
-      refusal = sym (ap (λ d. or_else (option_map (mismatch (get_or names place [])) d) later) (sym is ∙ none))
+      refusal = sym (ap (λ d. option_or (option_map (mismatch (get_or names place [])) d) later) (sym is ∙ none))
           ∙ sym (ap (λ xs. set_difference p xs (c ∷ drop (place + 1) ciphers)) ns) ∙ sym (ap (set_difference p (drop place names)) cs) ∙ so.refusal;
       same = λ h. so.same (subst (AreOfSet p) (sym cs) (same_set p c.params (sym is ∙ none), h));
     }
@@ -106,7 +106,7 @@ differs_at p names ciphers place name c d so l e m f some =
     let ns : drop place names ≡ name ∷ drop (place + 1) names = next names place name l e in
     let cs : drop place ciphers ≡ c ∷ drop (place + 1) ciphers = next ciphers place c m f in
     sym so.refusal ∙ ap (set_difference p (drop place names)) cs ∙ ap (λ xs. set_difference p xs (c ∷ drop (place + 1) ciphers)) ns
-    ∙ ap (λ d. or_else (option_map (mismatch name) d) (set_difference p (drop (place + 1) names) (drop (place + 1) ciphers))) some
+    ∙ ap (λ d. option_or (option_map (mismatch name) d) (set_difference p (drop (place + 1) names) (drop (place + 1) ciphers))) some
 
 pub values_fit : (files : List (List ℕ)) (ciphers : List Cipher) → AreCiphers files ciphers → AreCipherValues ciphers
 values_fit [] [] are = tt

@@ -99,10 +99,10 @@ way_lines laws c server_mask net batches together =
     together.accepted (way_kept laws c server_mask net batches together)
 
 way_plain : LawsBelow → (c : Client) (server_mask : List ℕ) (net : Net) (batches : List Batch) → GoTogether c net batches →
-    decrypted_lines c server_mask net batches ≡ plain_lines c.params.message_bits net (batch_lines batches)
+    decrypted_lines c server_mask net batches ≡ plain_lines net (batch_lines batches)
 way_plain laws c server_mask net batches together =
     way_lines laws c server_mask net batches together
-    ∙ run_plain c net (evaluated (server_key c.params c.seed server_mask) net (input_blocks net (batch_ciphers c batches))) batches
+    ∙ run_plain c net (evaluated (server_key c.params c.seed server_mask) net (input_blocks net (batch_ciphers c batches))) batches together.space
 
 pub whole_way : LawsBelow → WholeWayLaws
 whole_way laws =

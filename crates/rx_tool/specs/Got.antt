@@ -1,5 +1,5 @@
--- What the reads of a command give, where the store tells its files.
-use Rattle.std.specs.Prelude.{◌≡◌, ◌<◌, ◌≤◌, ℕ, List, [], ◌∷◌, ◌^◌, length, Option, Some, None, if◌then◌else◌, nat_le, Result, Ok, Err, IfSome, IsSomeAnd, All, Contains, ◌⊎◌, Vec}
+-- What the reads of a command give, over its store's files where they are told, and what they may give over any store.
+use Rattle.std.specs.Prelude.{◌≡◌, ◌<◌, ◌≤◌, ℕ, List, [], ◌∷◌, ◌^◌, length, Option, Some, None, if◌then◌else◌, nat_le, Result, Ok, Err, IfSome, IsSomeAnd, All, Contains, EachIndex, slice_index, ◌⊎◌, Vec}
 use Rattle.std.specs.Option.{option_map}
 use Rattle.std.specs.declared.alloc.Global.{Global}
 use Rattle.rx_store.specs.Files.{Files, file_at}
@@ -44,11 +44,16 @@ reads (Some command) = reads_of command
 abbrev pub got : Option Command → Files → Got
 got command files = got_all (reads command) files
 
--- What reads of these names may give over any store: as many files, each within the limit; a longer one, by its
--- name and length; or a missing one.
+-- bytes that a read may give
+pub record IsFile (file : List ℕ) : Type 0 where
+  pub bytes : EachIndex file (λ i. slice_index file i < 2 ^ 8)
+  pub size : length file ≤ file_limit
+
+-- What reads of these names may give over any store: as many files; a longer one, by its name and length; or a
+-- missing one.
 abbrev pub MayGive : List (List ℕ) → Got → Type 0
-MayGive names (whole files) = (length files ≡ length names) × All (λ file. length file ≤ file_limit) files
-MayGive names (long name size) = Contains names name × (file_limit < size)
+MayGive names (whole files) = (length files ≡ length names) × All IsFile files
+MayGive names (long name size) = Contains names name × (file_limit < size) × (size < 2 ^ 64)
 MayGive names missing = Unit {0}
 
 -- the reads of a command gave this: they may give it, and do where the store tells its files

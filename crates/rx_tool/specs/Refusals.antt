@@ -1,16 +1,11 @@
 -- What refuses the values of well-formed files, whatever the command is: a difference from a set, a limit that is passed.
 use Rattle.std.specs.Prelude.{ℕ, ◌≤◌, nat_le, ◌==◌, ◌&&◌, if◌then◌else◌, List, [], ◌∷◌, Option, Some, None}
-use Rattle.std.specs.Option.{option_map}
+use Rattle.std.specs.Option.{option_map, option_or}
 use Rattle.rx_params.specs.declared.params.Params.{Params}
 use Rattle.rx_net.specs.Limits.{most_jobs}
 use Rattle.rx_codec.specs.declared.cipher.Cipher.{Cipher}
 use Rattle.rx_crew.specs.Board.{board_words, board_limit, worker_limit}
 use Rattle.rx_report.specs.Reports.{Report, difference_of, mismatch, wrong_workers, many_jobs, wide_board}
-
--- the first of two refusals
-abbrev pub or_else : Option Report → Option Report → Option Report
-or_else (Some report) later = Some report
-or_else None later = later
 
 -- ---- differences
 
@@ -25,7 +20,7 @@ abbrev pub set_difference : Params → List (List ℕ) → List Cipher → Optio
 set_difference p [] ciphers = None
 set_difference p (name ∷ names) [] = None
 set_difference p (name ∷ names) (c ∷ ciphers) =
-    or_else (option_map (mismatch name) (difference_of p c.params)) (set_difference p names ciphers)
+    option_or (option_map (mismatch name) (difference_of p c.params)) (set_difference p names ciphers)
 
 -- ---- limits
 
@@ -41,7 +36,7 @@ board_refusal p jobs = if nat_le (board_words p jobs) board_limit then None else
 -- the first limit that is passed: of the workers, of the jobs, of the board
 abbrev pub limits_refusal : Params → ℕ → ℕ → Option Report
 limits_refusal p workers jobs =
-    or_else (workers_refusal workers) (or_else (jobs_refusal jobs) (board_refusal p jobs))
+    option_or (workers_refusal workers) (option_or (jobs_refusal jobs) (board_refusal p jobs))
 
 -- none is passed
 pub record IsWithinLimits (p : Params) (workers jobs : ℕ) : Type 0 where

@@ -1,6 +1,6 @@
 -- run SERVER NET WORKERS OUT IN..: evaluates a net over the items of ciphertext files, and writes its outputs.
 use Rattle.std.specs.Prelude.{ℕ, ◌≡◌, ◌<◌, ◌≤◌, ◌^◌, nat_lt, nat_le, if◌then◌else◌, List, [], ◌∷◌, ◌++◌, length, map, codes, decimal, Option, Some, None, Result, Ok, Err}
-use Rattle.std.specs.Option.{option_map, option_and_then}
+use Rattle.std.specs.Option.{option_map, option_and_then, option_or}
 use Rattle.std.specs.List.{AllByRecursion}
 use Rattle.rx_text.specs.Numerals.{numeral_of}
 use Rattle.rx_params.specs.declared.params.Params.{Params}
@@ -25,7 +25,7 @@ use Rattle.rx_crew.specs.Noise.{KeepsCells}
 use Rattle.rx_report.specs.Reports.{Report, malformed_binary, wrong_input}
 use Rattle.rx_tool.specs.declared.command.Command.{Command}
 use Rattle.rx_tool.specs.declared.command.Command.TheVariants.{Run}
-use Rattle.rx_tool.specs.Refusals.{or_else, space_difference, set_difference, IsWithinLimits, limits_refusal}
+use Rattle.rx_tool.specs.Refusals.{space_difference, set_difference, IsWithinLimits, limits_refusal}
 
 -- the number of a word: a numeral below 2 ^ 64
 abbrev pub word_number : List ℕ → Option ℕ
@@ -68,15 +68,15 @@ inputs_refusal inputs ciphers = option_map wrong_input (first_fault inputs (item
 -- what refuses the values of well-formed files: a difference from the key's set, an input, a limit
 abbrev pub values_refusal : Params → List ℕ → Net → ℕ → List (List ℕ) → List Cipher → Option Report
 values_refusal p net_name net workers names ciphers =
-    or_else (space_difference net_name p net.space)
-    (or_else (set_difference p names ciphers)
-    (or_else (inputs_refusal net.inputs ciphers) (limits_refusal p workers (length net.jobs))))
+    option_or (space_difference net_name p net.space)
+    (option_or (set_difference p names ciphers)
+    (option_or (inputs_refusal net.inputs ciphers) (limits_refusal p workers (length net.jobs))))
 
 abbrev pub run_refused : List ℕ → List ℕ → ℕ → List (List ℕ) → Result ServerWords CodecFault → Result Net CodecFault → List (List ℕ) → Option Report
 run_refused server net workers names (Err fault) read files = malformed_binary server fault
 run_refused server net workers names (Ok k) (Err fault) files = malformed_binary net fault
 run_refused server net workers names (Ok k) (Ok n) files =
-    or_else (malformed_input names files) (values_refusal k.params net n workers names (ciphers_of files))
+    option_or (malformed_input names files) (values_refusal k.params net n workers names (ciphers_of files))
 
 -- what refuses: the server file, the net file, the ciphertext files in their order, and then their values
 abbrev pub run_refusal : List ℕ → List ℕ → ℕ → List (List ℕ) → List (List ℕ) → Option Report

@@ -1,5 +1,5 @@
 -- The whole way: what a client encrypts, a server evaluates, and the client decrypts.
-use Rattle.std.specs.Prelude.{ℕ, ◌≡◌, List, map, None}
+use Rattle.std.specs.Prelude.{ℕ, ◌≡◌, List, [], ◌∷◌, ◌++◌, map, None}
 use Rattle.std.specs.List.{flat_map, filter, AllByRecursion}
 use Rattle.std.specs.Str.{bytes_eq}
 use Rattle.rx_params.specs.Acceptance.{Accepts}
@@ -18,7 +18,7 @@ use Rattle.rx_codec.specs.Kept.{AreItemsKept}
 use Rattle.rx_client.specs.Encrypt.{line_digits, first_width}
 use Rattle.rx_client.specs.Decrypt.{named_line, item_lines, kept_lines, first_damage}
 use Rattle.rx_server.specs.Inputs.{items_of, first_fault, digits_found}
-use Rattle.rx_net.specs.Numbers.{number_of, values_of}
+use Rattle.rx_net.specs.Numbers.{outs}
 use Rattle.rx_tool.specs.Encrypt.{encryption}
 use Rattle.rx_tool.specs.Run.{run_cipher, output_digits}
 
@@ -60,11 +60,17 @@ abbrev pub plain_digits : ℕ → List NetInput → List ValueLine → List ℕ
 plain_digits message_bits inputs lines =
     flat_map (λ (i : NetInput). flat_map (line_digits message_bits) (filter (λ (v : ValueLine). bytes_eq v.name i.name) lines)) inputs
 
--- a line for each output of a net over some value lines: its name, and the number of its cells' values
-abbrev pub plain_lines : ℕ → Net → List ValueLine → List ℕ
-plain_lines message_bits net lines =
-    let values : List ℕ = values_after (plain_digits message_bits net.inputs lines) net.jobs in
-    flat_map (λ (o : NetOutput). named_line o.name (number_of message_bits (values_of values o))) net.outputs
+-- a line for each name with the number at its place
+abbrev pub lines_of : List (List ℕ) → List ℕ → List ℕ
+lines_of [] numbers = []
+lines_of (name ∷ names) [] = []
+lines_of (name ∷ names) (number ∷ numbers) = named_line name number ++ lines_of names numbers
+
+-- the lines of a net's outputs over some value lines: their names, and the numbers that the net gives
+abbrev pub plain_lines : Net → List ValueLine → List ℕ
+plain_lines net lines =
+    lines_of (map (λ (o : NetOutput). o.name) net.outputs)
+    (outs net (values_after (plain_digits net.space net.inputs lines) net.jobs))
 
 -- ---- the laws
 
@@ -92,4 +98,4 @@ pub record WholeWayLaws : Type 0 where
       decrypted_lines c server_mask net batches
       ≡ kept_lines c.params.message_bits (run_over c server_mask net batches).items (digits_over c net batches)
   pub plain : (c : Client) (server_mask : List ℕ) (net : Net) (batches : List Batch) → GoTogether c net batches →
-      decrypted_lines c server_mask net batches ≡ plain_lines c.params.message_bits net (batch_lines batches)
+      decrypted_lines c server_mask net batches ≡ plain_lines net (batch_lines batches)

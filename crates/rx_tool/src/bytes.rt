@@ -1,5 +1,5 @@
 //! The bytes of a file, which contracts see as a list of bytes.
-ghost use Rattle.std.specs.Prelude.{◌≡◌};
+ghost use Rattle.std.specs.Prelude.{◌≡◌, ◌<◌, ◌^◌, EachIndex, slice_index};
 
 use std::marker::Model;
 
@@ -20,7 +20,8 @@ impl Model for Bytes {
 impl Bytes {
     /// These bytes, without a copy.
     pub fn new(bytes: Vec<u8>) -> Bytes
-        ensures { result ≡ bytes.items }
+        ensures value { result ≡ bytes.items }
+        ensures bytes { EachIndex result (λ i. slice_index result i < 2 ^ 8) }
     {
         Bytes { bytes }
     }

@@ -25,8 +25,7 @@ impl Model for Stream {
     ghost view = { λ s. record {
       key = s.words.key;
       number = s.words.stream;
-      next =
-          s.words.word_pos / 2;
+      next = s.words.word_pos / 2;
     } };
 
     ghost invariant = { λ s. (s.words.word_pos % 2 ≡ 0) × (s.words.word_pos < 2 ^ 68) };
