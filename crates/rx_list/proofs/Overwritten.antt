@@ -1,11 +1,7 @@
 -- As many values as the list has replace it.
-use Rattle.std.proofs.Common.{◌≡◌, ℕ, List, [], ◌∷◌, length, drop, refl}
+use Rattle.std.proofs.Common.{◌≡◌, List, length, drop}
 use Rattle.std.proofs.lemmas.List.{take_at}
 use Rattle.rx_list.specs.Overwritten.{overwritten}
 
 pub overwritten-all : {A : Type 0} (old values : List A) → length values ≡ length old → overwritten old values ≡ values
 overwritten-all old values e = take_at values (drop (length values) old) (length old) e
-
--- the length stays
-overwritten-lengths : (overwritten {A = ℕ} (1 ∷ 2 ∷ 3 ∷ []) (9 ∷ []) ≡ 9 ∷ 2 ∷ 3 ∷ []) × (overwritten {A = ℕ} (1 ∷ []) (8 ∷ 9 ∷ []) ≡ 8 ∷ [])
-overwritten-lengths = (refl, refl)
