@@ -1,6 +1,5 @@
 -- The rule at the start.
-use Rattle.std.proofs.Common.{◌≡◌, ℕ, zero, suc, ◌+◌, ◌*◌, ◌<◌, ◌≤◌, eqb, inl, List, [], ◌∷◌, length, length-set, length-take, replicate, get_or, get_or-set_same, set, take, sym, refl, ap, ◌∙◌, subst, arith}
-use Rattle.std.proofs.Math.ListN.{length-replicate}
+use Rattle.std.proofs.Common.{◌≡◌, ℕ, zero, suc, ◌+◌, ◌*◌, ◌<◌, ◌≤◌, eqb, inl, List, [], ◌∷◌, length, length-set, length-take, get_or, get_or-set_same, set, take, sym, refl, ap, ◌∙◌, subst, arith}
 use mathlib.Core.Option.{some, some-injective, some-ne-none}
 use lib.ListN.{get_elem?}
 use Rattle.atomic_table.specs.Table.{opening}
@@ -14,16 +13,11 @@ use Rattle.rx_net.specs.Legal.{Legal}
 use Rattle.rx_uses.specs.Uses.{nodes_of, owner_of}
 use Rattle.rx_uses.proofs.Legality.{lawful}
 use Rattle.rx_uses.proofs.UsesLaw.{node_operand, length-nodes}
-use Rattle.rx_board.specs.Rule.{input_count, Lawful, Knows, Opening, fresh, job_count, state_in, count_in, word_in, state_place, count_place, one_if, owned, owed, passed, uses_in, owner_in}
+use Rattle.rx_board.specs.Rule.{input_count, Lawful, Knows, Opening, fresh, job_count, state_in, count_in, word_in, count_place, one_if, owned, owed, passed, uses_in, owner_in}
 use Rattle.rx_board.proofs.Totals.{one, no, total_append}
 use Rattle.rx_board.proofs.Counts.{same_owed}
 use Rattle.rx_board.proofs.Keeps.{passed_part}
 use Rattle.rx_board.proofs.Places.{inside, states_stay, count_else}
-
-zero_at : (n i : ℕ) → ◌≡◌ {A = ℕ} (get_or (replicate n 0) i 0) 0
-zero_at zero i = refl
-zero_at (suc n) zero = refl
-zero_at (suc n) (suc i) = zero_at n i
 
 only : (v u : View) (i : ℕ) → get_elem? (v ∷ []) i ≡ some u → v ≡ u
 only v u zero e = some-injective v u e
@@ -35,14 +29,6 @@ module _ (net : Net) (w : ℕ) where
 
   abbrev O : ℕ → ℕ
   O = owner_of net
-
-  -- nothing is counted
-  pub opening_none : (ws : List ℕ) → ws ≡ replicate (1 + length net.jobs * (w + 2)) 0 → Opening net w 0 0 ws
-  opening_none ws e = record {
-    long = ap length e ∙ length-replicate (1 + length net.jobs * (w + 2)) 0;
-    free = λ j l. ap (λ (xs : List ℕ). get_or xs (state_place w j) 0) e ∙ zero_at (1 + length net.jobs * (w + 2)) (state_place w j);
-    counts = λ i l. ap (λ (xs : List ℕ). get_or xs (count_place w i) 0) e ∙ zero_at (1 + length net.jobs * (w + 2)) (count_place w i);
-  }
 
   -- one more node is counted
   pub opening_more : (n k : ℕ) (ws : List ℕ) → Opening net w n k ws → k < length (U n) → (i x : ℕ) → i ≡ count_place w (O (get_or (U n) k 0)) → x ≡ get_or ws i 0 + 1 → Opening net w n (k + 1) (set ws i x)

@@ -56,8 +56,3 @@ module _ (w : ℕ) (ws : List ℕ) (k a x i : ℕ) (here : i ≡ 1 + (k * (w + 2
 
   pub own_word : (q : ℕ) → 2 + q ≢ a → word_in w (set ws i x) k q ≡ word_in w ws k q
   own_word q ne = get_or-set_other ws i (word_place w k q) x 0 (λ e. let y : ℕ = k * (w + 2) in let z : 1 + (y + (2 + q)) ≡ 1 + (y + a) = e ∙ here in ne (omega arith))
-
--- what a row's place and its parts are below
-pub bounded : (n k c a : ℕ) → k < c → a < n → 1 + c * n ≤ 33554432 → (n ≤ 33554432) × (k * n ≤ 33554432) × (k * n + a < 33554432) × (1 + (k * n + a) < 1 + c * n)
-bounded n k c a l m top = let f = further k c n l in let x : ℕ = k * n in let y : ℕ = c * n in let f' : x + n ≤ y = f in let t' : 1 + y ≤ 33554432 = top in
-    let r : (n ≤ 33554432) × (x ≤ 33554432) × (x + a < 33554432) × (1 + (x + a) < 1 + y) = (omega arith, omega arith, omega arith, omega arith) in r

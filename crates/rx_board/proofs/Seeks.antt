@@ -78,9 +78,6 @@ published_told p u v m j g e l new due = (l, ap (λ (z : View). z.ran) e ∙ ap 
 pub lost_told : (p : Plan) (u v w : View) (j : ℕ) → Grows u v → MetSince u v j 1 → Seen p u v (job_count p) → Grows v w → ((k : ℕ) × (k < job_count p) × (Contains w.known k → ⊥)) → Told p u w (NotReady j)
 lost_told p u v w j g met seen more one = (more.ran ∙ g.ran, met_later u v w j 1 met more, λ k l. ⊎_elim (λ h. inl (more.known k h)) (λ b. inr (blocked_later p u v w k b more)) (seen k l), one)
 
-pub grown_keeps : (u v : View) → Grows u v → Keeps u v
-grown_keeps u v g = record { plan = g.plan; known = g.known; ready = g.ready; met = g.met }
-
 -- what a search finds after others, which found no job to take
 pub won_later : (p : Plan) (u v w : View) (j : ℕ) → Grows u v → Tried p v w j Claimed → j < job_count p → Sought p u w (Won j)
 won_later p u v w j g t l = (l, t.0, t.1, (λ h. t.2 (subst (λ (xs : List ℕ). Contains xs j) (sym g.ran) h)), ends_earlier u v w j 0 g t.3, t.4)

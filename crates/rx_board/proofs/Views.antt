@@ -5,18 +5,14 @@ use Rattle.std.proofs.lemmas.List.{get_or_read}
 use Rattle.std.proofs.lemmas.List.Elements.{Contains-append_left, Contains-append_right}
 use mathlib.Core.Logic.{dite}
 use native.Mathlib.Decide.{ℕ_discrete}
-use Rattle.std.specs.Prelude.{pos}
 use Rattle.rx_net.specs.declared.term.Term.{Term}
 use Rattle.rx_board.specs.declared.view.Plan.{Plan}
 use Rattle.rx_board.specs.declared.view.Found.{Found}
 use Rattle.rx_board.specs.declared.view.View.{View}
 use Rattle.rx_uses.specs.Cells.{terms_at}
 use Rattle.rx_board.specs.Rule.{input_count, IsOperandAt, holding}
-use Rattle.rx_board.specs.Steps.{IsReady, found_at, counted_at, claimed_at}
+use Rattle.rx_board.specs.Steps.{found_at, counted_at, claimed_at}
 use Rattle.rx_board.specs.Tells.{WaitsFor, Grows, MetSince, EndsWith, IsBlocked}
-
-pub grows_refl : (v : View) → Grows v v
-grows_refl v = record { plan = refl; ran = refl; known = λ j h. h; ready = λ j h. h; met = ([], sym (append-nil v.met)) }
 
 pub grows_on : (u v w : View) → Grows u v → Grows v w → Grows u w
 grows_on u v w a b = record {
@@ -74,18 +70,8 @@ blocked_later p u v w j b g = ⊎_elim (λ m. inl (met_later u v w j 1 m g)) (λ
 pub waits_earlier : (p : Plan) (u v w : View) (j k : ℕ) → Grows u v → WaitsFor p v w j k → WaitsFor p u w j k
 waits_earlier p u v w j k g t = record { operand = t.operand; state = t.state; is = t.is; not_present = t.not_present; met = met_earlier u v w t.operand t.state g t.met; unknown = λ h. t.unknown (g.known t.operand h); earlier = t.earlier }
 
--- a place of a job has one operand
-pub one_operand : (p : Plan) (j k o o' : ℕ) → IsOperandAt p j k o → IsOperandAt p j k o' → o ≡ o'
-one_operand p j k o o' a b = let d : Term = record { cell = 0; weight = pos 0 } in let e : input_count p.net + o ≡ input_count p.net + o' = sym (a.names d) ∙ b.names d in omega arith
-
-pub operand_number : (p : Plan) (j k o n : ℕ) (ts : List Term) (t : Term) → IsOperandAt p j k o → terms_at p.net.jobs j ≡ ts → t ≡ get_or ts k t → n ≡ input_count p.net → t.cell - n ≡ o
-operand_number p j k o n ts t a same here inputs = let e : t.cell ≡ input_count p.net + o = ap (λ (z : Term). z.cell) here ∙ (ap (λ (zs : List Term). (get_or zs k t).cell) (sym same) ∙ a.names t) in omega arith
-
 pub found_absent : (v : View) (j r : ℕ) → r ≢ 2 → (found_at v j r).known ≡ v.known
 found_absent v j r ne = ap (λ (c : Bool). cond c (v.known ++ j ∷ []) v.known) (ne_eqb r 2 ne)
-
-pub ready_later : (p : Plan) (v w : View) (j : ℕ) → IsReady p v j → ((i : ℕ) → Contains v.known i → Contains w.known i) → IsReady p w j
-ready_later p v w j r more = record { all = λ k o at. more o (r.all k o at) }
 
 pub operand_at : (p : Plan) (j k n : ℕ) (ts : List Term) (t : Term) → terms_at p.net.jobs j ≡ ts → k < length ts → t ≡ get_or ts k t → n ≡ input_count p.net → n ≤ t.cell → IsOperandAt p j k (t.cell - n)
 operand_at p j k n ts t same l here inputs le = record {

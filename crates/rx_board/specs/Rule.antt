@@ -1,5 +1,6 @@
 -- The rule of a board's words and views.
--- Word 0 is spare. Each job has a state word (0 free, 1 taken, 2 present), a count word (how many uses of job cells by the job are not credited) and the words of its cell.
+-- Word 0 is spare. Each job has a state word (0 free, 1 taken, 2 present), a count word (how many of its uses of job cells
+-- are not credited) and the words of its cell.
 use Rattle.std.specs.Prelude.{◌≡◌, ℕ, zero, suc, ◌+◌, ◌*◌, ◌<◌, ◌≤◌, ◌==◌, cond, Bool, true, false, ◌⊎◌, take, drop, List, [], ◌∷◌, length, get_or, slice_index, Contains, Option, Some, None}
 use mathlib.Core.Option.{some}
 use lib.ListN.{get_elem?}
@@ -30,7 +31,7 @@ one_if false = 0
 abbrev pub times : ℕ → List ℕ → ℕ
 times j xs = total (λ x. one_if (x == j)) xs
 
--- a held job with its words filled and its nodes credited
+-- a held job with its words filled and its uses credited
 abbrev pub holding : ℕ → ℕ → ℕ → Held
 holding j q e = record { job = j; filled = q; credited = e }
 
@@ -95,27 +96,29 @@ abbrev pub owner_in : Plan → ℕ → ℕ
 owner_in p t = owner_of p.net t
 
 module _ (uses : ℕ → List ℕ) (owner : ℕ → ℕ) where
-  -- how many of the nodes are the job's
+  -- how many of these uses are the job's
   abbrev pub owned : ℕ → List ℕ → ℕ
   owned i ts = total (λ t. one_if (owner t == i)) ts
 
-  -- how many nodes of the job i on the cells of the first n jobs are not credited, where of each list the first `passed` are
+  -- how many uses by the job i on the cells of the first n jobs are not credited, where of each list the first `passed` are
   abbrev pub owed : (ℕ → ℕ) → ℕ → ℕ → ℕ
   owed passed i zero = 0
   owed passed i (suc n) = owed passed i n + owned i (drop (passed n) (uses n))
 
--- how many nodes of the cell of c are credited: all, where c is present, else those that the view which holds c has passed
+-- how many uses of the cell of c are credited: all, where c is present, else those that the view which holds c has passed
 abbrev pub passed : Plan → (ℕ → ℕ) → List View → ℕ → ℕ
 passed p st views c = cond (st c == 2) (length (uses_in p c)) (total (λ v. credits c v.held) views)
 
 module _ (p : Plan) (st : ℕ → ℕ) (wd : ℕ → ℕ → ℕ) (ct : ℕ → ℕ) where
+  -- the first n words of the row of j are those of its cell
   abbrev pub HasWords : ℕ → ℕ → Type 0
   HasWords j n = (q : ℕ) → q < n → wd j q ≡ slice_index (cell p j) q
 
-  -- a held job is taken, its filled words are those of its cell, and nodes are credited only once it has all words
+  -- a held job is taken, its filled words are those of its cell, and uses are credited only once it has all words
   abbrev pub HeldOk : Option Held → Type 0
   HeldOk None = Unit {0}
-  HeldOk (Some h) = (h.job < job_count p) × (st h.job ≡ 1) × (h.filled ≤ p.width) × HasWords h.job h.filled × (h.credited ≤ length (uses_in p h.job))
+  HeldOk (Some h) = (h.job < job_count p) × (st h.job ≡ 1) × (h.filled ≤ p.width) × HasWords h.job h.filled
+      × (h.credited ≤ length (uses_in p h.job))
       × (0 < h.credited → (h.filled ≡ p.width) × (length (cell p h.job) ≡ p.width))
 
   -- what the words say of a view
@@ -127,6 +130,7 @@ module _ (p : Plan) (st : ℕ → ℕ) (wd : ℕ → ℕ → ℕ) (ct : ℕ → 
     -- a ready job has the count 0
     pub ready : (j : ℕ) → Contains v.ready j → (j < job_count p) × (ct j ≡ 0)
 
+  -- what holds of the states st, the words wd and the counts ct of jobs beside these views
   pub record Laws (views : List View) : Type 0 where
     pub states : (j : ℕ) → j < job_count p → st j ≤ 2
     pub present : (j : ℕ) → j < job_count p → st j ≡ 2 → (length (cell p j) ≡ p.width) × HasWords j p.width
@@ -135,7 +139,7 @@ module _ (p : Plan) (st : ℕ → ℕ) (wd : ℕ → ℕ → ℕ) (ct : ℕ → 
     pub holders : (j : ℕ) → j < job_count p → total (λ v. holds_job j v.held) views ≡ one_if (st j == 1)
     -- a present job stands once in all lists of jobs run, and another job in none
     pub runners : (j : ℕ) → j < job_count p → total (λ v. times j v.ran) views ≡ one_if (st j == 2)
-    -- the count of a job is the number of its nodes on job cells that are not credited
+    -- the count of a job is the number of its uses of job cells that are not credited
     pub counts : (j : ℕ) → j < job_count p → ct j ≡ owed (uses_in p) (owner_in p) (passed p st views) j (job_count p)
 
 -- the states, the counts and the words of cells that stand in a list of words
@@ -175,4 +179,5 @@ pub record Opening (net : Net) (w n k : ℕ) (ws : List ℕ) : Type 0 where
   pub long : length ws ≡ 1 + length net.jobs * (w + 2)
   pub free : (j : ℕ) → j < length net.jobs → state_in w ws j ≡ 0
   pub counts : (i : ℕ) → i < length net.jobs → count_in w ws i
-      ≡ owed (λ j. nodes_of net (input_count net + j)) (owner_of net) (λ _. 0) i n + owned (λ j. nodes_of net (input_count net + j)) (owner_of net) i (take k (nodes_of net (input_count net + n)))
+      ≡ owed (λ j. nodes_of net (input_count net + j)) (owner_of net) (λ _. 0) i n
+      + owned (λ j. nodes_of net (input_count net + j)) (owner_of net) i (take k (nodes_of net (input_count net + n)))

@@ -16,7 +16,7 @@ use Rattle.rx_board.specs.Steps.{published_at}
 abbrev pub counted : ℕ → ℕ
 counted n = min (n + 1) 18446744073709551615
 
--- v has become w: the plan and the jobs run are as before, no job known is forgotten, and the entries of `met` are kept
+-- v has become w: the plan and the jobs run are as before, no job known or ready is forgotten, and the entries of `met` are kept
 pub record Grows (v w : View) : Type 0 where
   pub plan : w.plan ≡ v.plan
   pub ran : w.ran ≡ v.ran
@@ -58,16 +58,21 @@ abbrev pub Tried : Plan → View → View → ℕ → Trial → Type 0
 Tried p v w j Present = (w.held ≡ None) × Contains w.known j
 Tried p v w j Taken = (w.held ≡ None) × MetSince v w j 1
 Tried p v w j Waiting = (w.held ≡ None) × ((k : ℕ) × WaitsFor p v w j k)
-Tried p v w j Claimed = (w.held ≡ Some (holding j 0 0)) × Contains w.ready j × (Contains v.ran j → ⊥) × EndsWith v w j 0 × (Contains w.known j → ⊥)
+Tried p v w j Claimed =
+    (w.held ≡ Some (holding j 0 0)) × Contains w.ready j × (Contains v.ran j → ⊥) × EndsWith v w j 0 × (Contains w.known j → ⊥)
 
 -- what a call of `step` tells
 abbrev pub Told : Plan → View → View → Step → Type 0
-Told p v w (Ran j) = (j < job_count p) × (w.ran ≡ v.ran ++ j ∷ []) × (Contains v.ran j → ⊥) × Contains w.known j × Contains w.ready j
-Told p v w (NotReady j) = (w.ran ≡ v.ran) × MetSince v w j 1 × ((k : ℕ) → k < job_count p → Contains w.known k ⊎ IsBlocked p v w k) × ((k : ℕ) × (k < job_count p) × (Contains w.known k → ⊥))
-Told p v w (Refused j) = (j < job_count p) × (w.ran ≡ v.ran) × EndsWith v w j 0 × (Contains w.known j → ⊥) × Contains w.ready j
+Told p v w (Ran j) =
+    (j < job_count p) × (w.ran ≡ v.ran ++ j ∷ []) × (Contains v.ran j → ⊥) × Contains w.known j × Contains w.ready j
+Told p v w (NotReady j) =
+    (w.ran ≡ v.ran) × MetSince v w j 1 × ((k : ℕ) → k < job_count p → Contains w.known k ⊎ IsBlocked p v w k)
+    × ((k : ℕ) × (k < job_count p) × (Contains w.known k → ⊥))
+Told p v w (Refused j) =
+    (j < job_count p) × (w.ran ≡ v.ran) × EndsWith v w j 0 × (Contains w.known j → ⊥) × Contains w.ready j
 Told p v w Done = (w.ran ≡ v.ran) × ((k : ℕ) → k < job_count p → Contains w.known k)
 
--- the plan stays, no job known is forgotten, and the entries of `met` are kept
+-- the plan stays, no job known or ready is forgotten, and the entries of `met` are kept
 pub record Keeps (v w : View) : Type 0 where
   pub plan : w.plan ≡ v.plan
   pub known : (j : ℕ) → Contains v.known j → Contains w.known j
@@ -80,7 +85,8 @@ Seen p v w n = (k : ℕ) → k < n → Contains w.known k ⊎ IsBlocked p v w k
 
 -- what a search for a free and ready job tells
 abbrev pub Sought : Plan → View → View → Seek → Type 0
-Sought p v w (Won j) = (j < job_count p) × (w.held ≡ Some (holding j 0 0)) × Contains w.ready j × (Contains v.ran j → ⊥) × EndsWith v w j 0 × (Contains w.known j → ⊥)
+Sought p v w (Won j) =
+    (j < job_count p) × (w.held ≡ Some (holding j 0 0)) × Contains w.ready j × (Contains v.ran j → ⊥) × EndsWith v w j 0 × (Contains w.known j → ⊥)
 Sought p v w (Lost j) = (w.held ≡ None) × MetSince v w j 1 × Seen p v w (job_count p)
 Sought p v w AllPresent = (w.held ≡ None) × ((k : ℕ) → k < job_count p → Contains w.known k)
 
@@ -92,6 +98,7 @@ first_taken None j Present = None
 first_taken None j Waiting = None
 first_taken None j Claimed = None
 
+-- how many runs there are after a step
 abbrev pub runs_after : Step → ℕ → ℕ
 runs_after (Ran j) n = counted n
 runs_after (NotReady j) n = n

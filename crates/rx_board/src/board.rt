@@ -68,8 +68,8 @@ impl<'a, K: Kernel> Model for Board<'a, K> {
 
 impl<'a, K: Kernel> Board<'a, K> {
     /// A board on which no job was claimed, and its first seat. `uses` are the use lists of the net as they were made,
-    /// and `inputs` are the words of the input cells, one cell after another. The board has at most 2^25 words: one,
-    /// and two more than a cell's for each job.
+    /// and `inputs` are the words of the input cells, one cell after another. The board has at most 2^25 words: one, and
+    /// for each job two more than a cell has. The error is want of memory.
     pub fn new(
         alloc: Global,
         net: &'a Net,

@@ -25,8 +25,7 @@ impl Model for Desk {
 }
 
 impl Desk {
-    /// Buffers for the jobs of a net whose cells have so many words. It fails where memory runs out, which 17 times so
-    /// many words of 8 bytes are asked of.
+    /// Buffers for the jobs of a net whose cells have so many words: 17 times as many. The error is want of memory.
     pub fn new(alloc: Global, net: &Net, words: usize) -> Result<Desk, AllocError>
         ensures { IfOk result (λ d. d ≡ words) }
     {

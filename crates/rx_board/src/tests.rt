@@ -1,5 +1,6 @@
 //! Boards over small nets with kernels that stand in for true ones.
-ghost use Rattle.std.specs.Prelude.{◌≡◌, ◌≤◌, ℕ, ◌∷◌, [], length, List, IfOk};
+ghost use Rattle.std.specs.Prelude.{◌≡◌, ◌+◌, ℕ, ◌∷◌, [], length, List, IfOk};
+ghost use Rattle.std.specs.Thread.{IsSync};
 ghost use Rattle.rx_board.specs.Seats.{IsOf};
 ghost use Rattle.rx_net.specs.Cells.{input_cells};
 ghost use Rattle.rx_net.specs.Legal.{Legal};
@@ -13,6 +14,7 @@ use std::sync::Arc;
 use std::sync::atomic::{AtomicU64, Ordering};
 use std::test::Fail;
 use std::thread;
+use std::thread::Threads;
 
 /// A job that sums these cells, all of which are 0.
 fn job(alloc: Global, cells: &[u32]) -> Result<Job, AllocError> {
@@ -219,41 +221,46 @@ fn go(board: &Board<'_, Counter>, worker: &mut Worker) -> (char, u32)
     told(&board.step(&mut worker.seat, &mut worker.desk, &mut worker.kernel))
 }
 
-/// The worker runs so many jobs in order, and then there is nothing to do.
-fn runs_in_order(rt: &impl Abort, board: &Board<'_, Counter>, worker: &mut Worker, jobs: u32)
+/// The worker runs the jobs in order up to the last, and then there is nothing to do.
+fn runs_in_order(rt: &impl Abort, board: &Board<'_, Counter>, worker: &mut Worker, last: u32)
     requires basis { board.now.basis ≡ [] }
     requires width { board.now.plan.width ≡ 1 }
     requires space { board.now.plan.net.space ≡ 2 }
     requires seat { IsOf board.now worker.old.seat }
     requires desk { worker.old.desk ≡ 1 }
+    ensures { IsOf board.now worker.new.seat }
 {
-    for job in 0..jobs {
+    for job in 0..=last {
         assert_eq!(rt; go(board, worker), ('r', job));
     }
     assert_eq!(rt; go(board, worker), ('d', 0));
 }
 
-/// One seat runs all jobs of a net in order.
+/// One seat runs all jobs of a net in order, of which the last has two operands.
 fn one_seat_runs_all(
     rt: &impl Abort,
     alloc: Global,
     cells: &[&[u32]],
-    jobs: u32,
-) -> Result<(), Fail> {
+    last: u32,
+) -> Result<(), Fail>
+    requires { last + 1 ≡ length cells.now }
+{
     let latch = new_latch(alloc)?;
     let kernel = Counter::new(&latch)?;
     let net = net_naming(alloc, cells)?;
     let uses = Uses::of(alloc, &net)?;
     let (board, seat) = Board::new(alloc, &net, &uses, &[], &kernel)?;
     let mut one = Worker::new(alloc, &net, seat, &latch)?;
-    runs_in_order(rt, &board, &mut one, jobs);
+    runs_in_order(rt, &board, &mut one, last);
+    let mut out = [9u64];
+    assert!(rt; board.read(&mut one.seat, last, &mut out) && out == [2]);
     Ok(())
 }
 
 #[test]
 fn a_job_waits_for_each_of_its_operands(rt: HostRuntime) -> Result<(), Fail> {
-    one_seat_runs_all(&rt, rt.alloc(), &[&[], &[0, 0]], 2)?;
-    one_seat_runs_all(&rt, rt.alloc(), &[&[], &[0], &[0], &[1, 2]], 4)
+    one_seat_runs_all(&rt, rt.alloc(), &[&[], &[0, 0]], 1)?;
+    one_seat_runs_all(&rt, rt.alloc(), &[&[], &[0], &[0], &[1, 2]], 3)
 }
 
 #[test]
@@ -277,7 +284,11 @@ fn a_refused_job_is_given_back(rt: HostRuntime) -> Result<(), Fail> {
     assert_eq!(rt; go(&board, &mut one), ('r', 2));
     assert_eq!(rt; go(&board, &mut one), ('d', 0));
     assert!(rt; board.read(&mut one.seat, 1, &mut out) && out == [0]);
-    assert_eq!(rt; board.close(one.seat).count(), 3);
+    let spare = board.split(&mut one.seat);
+    board.join(&mut one.seat, spare);
+    let closed = board.close(one.seat);
+    assert_eq!(rt; closed.count(), 3);
+    assert!(rt; closed.present(1) && closed.read(1, &mut out) && out == [0]);
     Ok(())
 }
 
@@ -305,8 +316,6 @@ fn meanwhile(board: &Board<'_, Counter>, worker: Worker) -> (Worker, (char, u32)
     requires space { board.now.plan.net.space ≡ 2 }
     requires seat { IsOf board.now worker.seat }
     requires desk { worker.desk ≡ 1 }
-    ensures seat { IsOf board.now result.0.seat }
-    ensures desk { result.0.desk ≡ 1 }
 {
     let mut worker = worker;
     wait_for(&worker.kernel.latch.started);
@@ -323,8 +332,6 @@ fn gone(board: &Board<'_, Counter>, worker: Worker) -> (Worker, (char, u32))
     requires space { board.now.plan.net.space ≡ 2 }
     requires seat { IsOf board.now worker.seat }
     requires desk { worker.desk ≡ 1 }
-    ensures seat { IsOf board.now result.0.seat }
-    ensures desk { result.0.desk ≡ 1 }
 {
     let mut worker = worker;
     let step = go(board, &mut worker);
@@ -357,4 +364,127 @@ fn a_held_run_is_not_ready(rt: HostRuntime) -> Result<(), Fail> {
     );
     assert_eq!(rt; (held, run, stopped), (('r', 1), ('r', 2), ('n', 1)));
     Ok(())
+}
+
+/// A net of 200 jobs: a hundred without operands, and a hundred of two operands each among those before.
+fn wide(alloc: Global) -> Result<Vec<Job>, AllocError> {
+    let mut jobs = Vec::new(alloc);
+    for _ in 0..100 {
+        jobs.push(job(alloc, &[])?)?;
+    }
+    for number in 0..100u32 {
+        jobs.push(job(alloc, &[number, number + 1])?)?;
+    }
+    Ok(jobs)
+}
+
+/// A net of 50 jobs, each of which takes the one before it.
+fn chain(alloc: Global) -> Result<Vec<Job>, AllocError> {
+    let mut jobs = Vec::new(alloc);
+    jobs.push(job(alloc, &[])?)?;
+    for number in 0..49u32 {
+        jobs.push(job(alloc, &[number])?)?;
+    }
+    Ok(jobs)
+}
+
+/// Steps until all is done, 2^24 times at most. It tells how many runs there were.
+fn drain(board: &Board<'_, Counter>, worker: Worker) -> u64
+    requires basis { board.now.basis ≡ [] }
+    requires width { board.now.plan.width ≡ 1 }
+    requires space { board.now.plan.net.space ≡ 2 }
+    requires seat { IsOf board.now worker.seat }
+    requires desk { worker.desk ≡ 1 }
+{
+    let mut worker = worker;
+    for _ in 0..1 << 24 {
+        if go(board, &mut worker) == ('d', 0) {
+            break;
+        }
+    }
+    worker.kernel.runs
+}
+
+/// Two threads, and how many runs they had.
+fn drain_by_two<R: Threads>(rt: &R, board: &Board<'_, Counter>, pair: (Worker, Worker)) -> u64
+    requires basis { board.now.basis ≡ [] }
+    requires width { board.now.plan.width ≡ 1 }
+    requires space { board.now.plan.net.space ≡ 2 }
+    requires one { IsOf board.now pair.0.seat × (pair.0.desk ≡ 1) }
+    requires two { IsOf board.now pair.1.seat × (pair.1.desk ≡ 1) }
+{
+    let (one, two) = pair;
+    let (first, second) = thread::join(
+        rt,
+        || -> u64
+            requires { (board.now.basis ≡ []) × (board.now.plan.width ≡ 1)
+                × (board.now.plan.net.space ≡ 2) × IsOf board.now one.seat × (one.desk ≡ 1) }
+        { drain(board, one) },
+        || -> u64
+            requires { (board.now.basis ≡ []) × (board.now.plan.width ≡ 1)
+                × (board.now.plan.net.space ≡ 2) × IsOf board.now two.seat × (two.desk ≡ 1) }
+        { drain(board, two) },
+    );
+    first.wrapping_add(second)
+}
+
+/// Four threads, and how many runs they had.
+fn drain_by_four<R: Threads + Sync>(
+    rt: &R,
+    board: &Board<'_, Counter>,
+    left: (Worker, Worker),
+    right: (Worker, Worker),
+) -> u64
+    requires basis { board.now.basis ≡ [] }
+    requires width { board.now.plan.width ≡ 1 }
+    requires space { board.now.plan.net.space ≡ 2 }
+    requires left { IsOf board.now left.0.seat × (left.0.desk ≡ 1)
+        × IsOf board.now left.1.seat × (left.1.desk ≡ 1) }
+    requires right { IsOf board.now right.0.seat × (right.0.desk ≡ 1)
+        × IsOf board.now right.1.seat × (right.1.desk ≡ 1) }
+{
+    let (first, second) = thread::join(
+        rt,
+        || -> u64
+            requires { IsSync R.row × (board.now.basis ≡ []) × (board.now.plan.width ≡ 1)
+                × (board.now.plan.net.space ≡ 2)
+                × IsOf board.now left.0.seat × (left.0.desk ≡ 1)
+                × IsOf board.now left.1.seat × (left.1.desk ≡ 1) }
+        { drain_by_two(rt, board, left) },
+        || -> u64
+            requires { IsSync R.row × (board.now.basis ≡ []) × (board.now.plan.width ≡ 1)
+                × (board.now.plan.net.space ≡ 2)
+                × IsOf board.now right.0.seat × (right.0.desk ≡ 1)
+                × IsOf board.now right.1.seat × (right.1.desk ≡ 1) }
+        { drain_by_two(rt, board, right) },
+    );
+    first.wrapping_add(second)
+}
+
+/// Four threads run each job once.
+fn four_threads_run_all<R: Abort + Threads + Sync>(
+    rt: &R,
+    alloc: Global,
+    jobs: Vec<Job>,
+) -> Result<(), Fail> {
+    let latch = new_latch(alloc)?;
+    let kernel = Counter::new(&latch)?;
+    let net = net_of(alloc, jobs)?;
+    let uses = Uses::of(alloc, &net)?;
+    let (board, mut first) = Board::new(alloc, &net, &uses, &[], &kernel)?;
+    let one = Worker::new(alloc, &net, board.split(&mut first), &latch)?;
+    let two = Worker::new(alloc, &net, board.split(&mut first), &latch)?;
+    let three = Worker::new(alloc, &net, board.split(&mut first), &latch)?;
+    let four = Worker::new(alloc, &net, board.split(&mut first), &latch)?;
+    let runs = drain_by_four(rt, &board, (one, two), (three, four));
+    let count = net.jobs.as_slice().len() as u64;
+    assert_eq!(rt; runs, count);
+    assert_eq!(rt; u64::from(board.close(first).count()), count);
+    Ok(())
+}
+
+#[test]
+fn four_threads_run_each_job_once(rt: HostRuntime) -> Result<(), Fail> {
+    four_threads_run_all(&rt, rt.alloc(), chain(rt.alloc())?)?;
+    four_threads_run_all(&rt, rt.alloc(), wide(rt.alloc())?)
 }

@@ -52,7 +52,7 @@ impl<'a, K: Kernel> Board<'a, K> {
         }
     }
 
-    /// Stores the words of a held job, credits its nodes and publishes it.
+    /// Stores the words of a held job, credits the uses of its cell and publishes it.
     fn finish(&self, seat: &mut RawSeat, job: u32, words: &[u64])
         requires seat { IsSeatOf self.now seat.old }
         requires held { seat.old.me.0.held ≡ Some (holding job 0 0) }
@@ -87,7 +87,7 @@ impl<'a, K: Kernel> Board<'a, K> {
         }
     }
 
-    /// Credits all nodes of a held job's cell.
+    /// Credits all uses of a held job's cell.
     fn credit_all(&self, seat: &mut RawSeat, job: u32)
         requires seat { IsSeatOf self.now seat.old }
         requires held { seat.old.me.0.held ≡ Some (holding job self.now.plan.width 0) }

@@ -130,7 +130,7 @@ impl<'a, K: Kernel> Board<'a, K> {
         self.uses.first(self.first_cell + job)
     }
 
-    /// The use of a job's cell after the node, which has `done` uses before it.
+    /// The use of a job's cell after this one, which has `done` uses before it.
     pub(super) fn next_use(&self, job: u32, done: u32, node: u32) -> Option<u32>
         requires job { job < job_count self.now.plan }
         requires node { node_at (uses_in self.now.plan job) done ≡ Some node }
@@ -141,7 +141,7 @@ impl<'a, K: Kernel> Board<'a, K> {
         self.uses.next(node)
     }
 
-    /// The job whose term the node is.
+    /// The job whose use of a job's cell this is.
     fn owner(&self, job: u32, done: u32, node: u32) -> u32
         requires job { job < job_count self.now.plan }
         requires node { node_at (uses_in self.now.plan job) done ≡ Some node }
@@ -155,7 +155,7 @@ impl<'a, K: Kernel> Board<'a, K> {
         self.uses.owner(node)
     }
 
-    /// Credits the next node of the held job's cell.
+    /// Credits the next use of the held job's cell: the count of the job whose it is falls by one.
     pub(super) fn credit(&self, seat: &mut RawSeat, job: u32, done: u32, node: u32)
         requires seat { IsSeatOf self.now seat.old }
         requires held { seat.old.me.0.held ≡ Some (holding job self.now.plan.width done) }
