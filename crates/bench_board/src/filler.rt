@@ -41,6 +41,8 @@ impl Kernel for Filler {
         WORDS
     }
 
+    fn claimed(&mut self, _job: u32) {}
+
     fn run(&mut self, _job: &Job, operands: &[u64], out: &mut [u64]) -> Result<(), KernelFault> {
         self.runs = self.runs.saturating_add(1);
         out.fill(operands.len() as u64);

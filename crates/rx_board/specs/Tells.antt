@@ -105,6 +105,13 @@ runs_after (NotReady j) n = n
 runs_after Done n = n
 runs_after (Refused j) n = counted n
 
+-- after a step that ran a job, or whose run was refused, the kernel was told of that job before its last run
+abbrev pub IsLastRun : (ℕ → Type 0) → Step → Type 0
+IsLastRun last (Ran j) = last j
+IsLastRun last (NotReady j) = Unit {0}
+IsLastRun last Done = Unit {0}
+IsLastRun last (Refused j) = last j
+
 -- what a step tells of its kernel's faults, before and after
 abbrev pub FaultsAfter : Step → ℕ → ℕ → Type 0
 FaultsAfter (Ran j) a b = Unit {0}

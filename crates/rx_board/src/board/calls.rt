@@ -1,9 +1,9 @@
 //! The calls by callers' seats.
-ghost use Rattle.std.specs.Prelude.{◌≡◌, ◌≢◌, ℕ, ◌<◌, ◌≤◌, length, Contains, true, false};
+ghost use Rattle.std.specs.Prelude.{◌≡◌, ◌≢◌, ℕ, ◌<◌, ◌≤◌, length, Contains, true, false, None};
 ghost use Rattle.rx_board.specs.Seats.{IsOf};
 ghost use Rattle.rx_board.specs.Rule.{job_count, cell};
 ghost use Rattle.rx_board.specs.Steps.{given, both_of};
-ghost use Rattle.rx_board.specs.Tells.{Grows, Keeps, MetSince, Told, runs_after, FaultsAfter};
+ghost use Rattle.rx_board.specs.Tells.{Grows, Keeps, MetSince, Told, runs_after, IsLastRun, FaultsAfter};
 
 use super::Board;
 use crate::desk::Desk;
@@ -46,6 +46,7 @@ impl<'a, K: Kernel> Board<'a, K> {
         requires kernel { (K.basis kernel.old ≡ self.now.basis)
             × (K.width kernel.old ≡ self.now.plan.width)
             × (K.space kernel.old ≡ self.now.plan.net.space) }
+        requires told { K.told kernel.old None }
         ensures seat { IsOf self.now seat.new × (seat.new.id ≡ seat.old.id) }
         ensures keeps { Keeps seat.old.view seat.new.view }
         ensures told { Told self.now.plan seat.old.view seat.new.view result }
@@ -53,6 +54,8 @@ impl<'a, K: Kernel> Board<'a, K> {
         ensures kernel { (K.basis kernel.new ≡ K.basis kernel.old)
             × (K.width kernel.new ≡ K.width kernel.old)
             × (K.space kernel.new ≡ K.space kernel.old) }
+        ensures last { IsLastRun (K.last kernel.new) result }
+        ensures idle { K.told kernel.new None }
         ensures runs { K.runs kernel.new ≡ runs_after result (K.runs kernel.old) }
         ensures faults { K.faults kernel.old ≤ K.faults kernel.new }
         ensures refused { FaultsAfter result (K.faults kernel.old) (K.faults kernel.new) }

@@ -1,5 +1,5 @@
 //! A run of a held job.
-ghost use Rattle.std.specs.Prelude.{◌≡◌, ◌*◌, ◌<◌, ◌≤◌, length, Contains, false, Some};
+ghost use Rattle.std.specs.Prelude.{◌≡◌, ◌*◌, ◌<◌, ◌≤◌, length, Contains, false, Some, None};
 ghost use Rattle.rx_board.specs.Seats.{IsSeatOf};
 ghost use Rattle.rx_board.specs.Rule.{job_count, cell, holding, uses_in};
 ghost use Rattle.rx_board.specs.Steps.{published_at};
@@ -28,6 +28,7 @@ impl<'a, K: Kernel> Board<'a, K> {
         requires kernel { (K.basis kernel.old ≡ self.now.basis)
             × (K.width kernel.old ≡ self.now.plan.width)
             × (K.space kernel.old ≡ self.now.plan.net.space) }
+        requires told { K.told kernel.old None }
         ensures seat { (seat.new.table_id ≡ seat.old.table_id) × (seat.new.id ≡ seat.old.id) }
         ensures view { seat.new.me ≡ (after_run seat.old.me.0 job result, seat.old.me.1) }
         ensures faults { K.faults kernel.old ≤ K.faults kernel.new }
@@ -36,6 +37,8 @@ impl<'a, K: Kernel> Board<'a, K> {
             × (K.width kernel.new ≡ K.width kernel.old)
             × (K.space kernel.new ≡ K.space kernel.old) }
         ensures runs { K.runs kernel.new ≡ counted (K.runs kernel.old) }
+        ensures told { K.told kernel.new None }
+        ensures last { K.last kernel.new job }
     {
         let size = self.job(job).terms.as_slice().len() * self.width();
         self.gather(seat, job, &mut operands[..size]);

@@ -5,7 +5,7 @@ ghost use Rattle.rx_board.specs.declared.view.Trial.TheVariants.{Claimed};
 ghost use Rattle.rx_board.specs.Seats.{IsSeatOf, IsIdleSeatOf};
 ghost use Rattle.rx_board.specs.Rule.{job_count, IsOperandAt};
 ghost use Rattle.rx_board.specs.Steps.{IsReady};
-ghost use Rattle.rx_board.specs.Tells.{Grows, Keeps, WaitsFor, Tried, Hunted, Sought, Told, first_taken, runs_after, FaultsAfter};
+ghost use Rattle.rx_board.specs.Tells.{Grows, Keeps, WaitsFor, Tried, Hunted, Sought, Told, first_taken, runs_after, IsLastRun, FaultsAfter};
 
 use super::Board;
 use crate::desk::Desk;
@@ -223,6 +223,7 @@ impl<'a, K: Kernel> Board<'a, K> {
         requires kernel { (K.basis kernel.old ≡ self.now.basis)
             × (K.width kernel.old ≡ self.now.plan.width)
             × (K.space kernel.old ≡ self.now.plan.net.space) }
+        requires told { K.told kernel.old None }
         ensures seat { IsIdleSeatOf self.now seat.new × (seat.new.id ≡ seat.old.id) }
         ensures keeps { Keeps seat.old.me.0 seat.new.me.0 }
         ensures told { Told self.now.plan seat.old.me.0 seat.new.me.0 result }
@@ -230,6 +231,8 @@ impl<'a, K: Kernel> Board<'a, K> {
         ensures kernel { (K.basis kernel.new ≡ K.basis kernel.old)
             × (K.width kernel.new ≡ K.width kernel.old)
             × (K.space kernel.new ≡ K.space kernel.old) }
+        ensures last { IsLastRun (K.last kernel.new) result }
+        ensures idle { K.told kernel.new None }
         ensures runs { K.runs kernel.new ≡ runs_after result (K.runs kernel.old) }
         ensures faults { K.faults kernel.old ≤ K.faults kernel.new }
         ensures refused { FaultsAfter result (K.faults kernel.old) (K.faults kernel.new) }

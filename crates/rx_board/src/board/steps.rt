@@ -3,13 +3,22 @@ ghost use Rattle.std.specs.Prelude.{◌≡◌, ◌≢◌, ◌+◌, ◌<◌, ◌�
 ghost use Rattle.rx_uses.specs.Uses.{node_at};
 ghost use Rattle.rx_board.specs.Seats.{IsSeatOf, IsIdleSeatOf};
 ghost use Rattle.rx_board.specs.Rule.{job_count, cell, holding, state_place, count_place, word_place, uses_in, owner_in};
-ghost use Rattle.rx_board.specs.Steps.{published_at, given, both_of, IsReady, MayRead};
+ghost use Rattle.rx_board.specs.Steps.{claimed_at, published_at, given, both_of, IsReady, MayRead};
 ghost use Rattle.rx_board.specs.Tells.{Grows, MetSince, EndsWith};
 
 use super::Board;
 use crate::kernel::Kernel;
 use crate::plays::{Claim, Credit, Cut, GiveBack, Glue, Look, LookCount, Publish, ReadWord, Store};
 use crate::view::RawSeat;
+
+/// The state of a job that no seat holds and that is not present.
+const FREE: u64 = 0;
+
+/// The state of a job that a seat holds.
+const TAKEN: u64 = 1;
+
+/// The state of a job that was published.
+const PRESENT: u64 = 2;
 
 impl<'a, K: Kernel> Board<'a, K> {
     /// The place of a job's state word.
@@ -101,10 +110,27 @@ impl<'a, K: Kernel> Board<'a, K> {
         ensures held { result ≡ 0 → seat.new.me.0.held ≡ Some (holding job 0 0) }
         ensures missed { result ≢ 0 → seat.new.me.0.held ≡ None }
     {
+        self.exchange(seat, job, FREE, TAKEN)
+    }
+
+    /// Exchanges the state of a job where it is the first of these, in one step that no other step comes between, and
+    /// gives the state that was found. Of all exchanges only that of free for taken claims a job.
+    fn exchange(&self, seat: &mut RawSeat, job: u32, from: u64, to: u64) -> u64
+        requires seat { IsIdleSeatOf self.now seat.old }
+        requires job { job < job_count self.now.plan }
+        requires ready { Contains seat.old.me.0.ready job }
+        requires from { from ≡ 0 }
+        requires to { to ≡ 1 }
+        ensures seat { (seat.new.table_id ≡ seat.old.table_id) × (seat.new.id ≡ seat.old.id) }
+        ensures view { seat.new.me ≡ (claimed_at seat.old.me.0 job result, seat.old.me.1) }
+        ensures state { result ≤ 2 }
+        ensures known { Contains seat.old.me.0.known job → result ≡ 2 }
+        ensures ran { Contains seat.old.me.0.ran job → result ≡ 2 }
+    {
         let place = self.state_word(job);
         self.table
             .shared
-            .compare_exchange::<Claim>(seat, place, 0, 1)
+            .compare_exchange::<Claim>(seat, place, from, to)
     }
 
     /// Stores the next word of a held job.
@@ -183,7 +209,7 @@ impl<'a, K: Kernel> Board<'a, K> {
         ensures view { seat.new.me ≡ (record seat.old.me.0 { held = None }, seat.old.me.1) }
     {
         let place = self.state_word(job);
-        self.table.shared.store::<GiveBack>(seat, place, 0);
+        self.table.shared.store::<GiveBack>(seat, place, FREE);
     }
 
     /// Publishes a held job all of whose words are stored and all of whose uses are credited.
@@ -197,7 +223,7 @@ impl<'a, K: Kernel> Board<'a, K> {
         ensures view { seat.new.me ≡ (published_at seat.old.me.0 job, seat.old.me.1) }
     {
         let place = self.state_word(job);
-        self.table.shared.store::<Publish>(seat, place, 2);
+        self.table.shared.store::<Publish>(seat, place, PRESENT);
     }
 
     /// One more seat, which knows what this one knows.
