@@ -28,16 +28,33 @@ basis_key-same k e =
     ap (λ n. drop n (k.boot ++ k.switch)) (sym e) ∙ drop-append_seam k.boot k.switch in
     λ i. record { params = k.params; boot = boot i; switch = switch i }
 
+-- what a job gives for operands that stand one after another
+pub job_words-of : (k : ServerWords) (job : Job) (operands : List ℕ) → length k.boot ≡ boot_size k.params →
+    job_words (key_basis k) job operands
+    ≡ bootstrapped k job.table (words_below (large_dim k.params + 1) (mixed_operands k.params job.terms job.constant operands))
+unfolding job_words
+job_words-of k job operands e =
+    ap (λ (x : ServerWords). bootstrapped x job.table (words_below (large_dim x.params + 1) (mixed_operands x.params job.terms job.constant operands)))
+    (basis_key-same k e)
+
+-- the words of a job, as they are made
+pub job_words-made : (k : ServerWords) (job : Job) (operands : List ℕ) (p : Params) (terms : List Term) (constant : ℤ) (table sum out : List ℕ) →
+    length k.boot ≡ boot_size k.params → p ≡ k.params → terms ≡ job.terms → constant ≡ job.constant → table ≡ job.table →
+    sum ≡ words_below (large_dim p + 1) (mixed_operands p terms constant operands) → out ≡ bootstrapped k table sum → out ≡ job_words (key_basis k) job operands
+job_words-made k job operands p terms constant table sum out rows e f g h mixed is =
+    let words : Params → List Term → ℤ → List ℕ = λ x ts z. words_below (large_dim x + 1) (mixed_operands x ts z operands) in
+    let same : sum ≡ words k.params job.terms job.constant =
+    mixed ∙ ap (λ x. words x terms constant) e ∙ ap (λ ts. words k.params ts constant) f ∙ ap (words k.params job.terms) g in
+    is ∙ ap (λ ts. bootstrapped k ts sum) h ∙ ap (bootstrapped k job.table) same ∙ sym (job_words-of k job operands rows)
+
 -- what a job gives for blocks
 pub job_words-same : (k : ServerWords) (job : Job) (blocks : List Block) → length k.boot ≡ boot_size k.params →
     AreCellsOf blocks job.terms → AreBlocksOf k.params blocks →
     job_words (key_basis k) job (operand_words (map (λ (b : Block). b.words) blocks) job.terms)
     ≡ bootstrapped k job.table (mixed_words k.params blocks job.terms job.constant)
-unfolding job_words
 job_words-same k job blocks e cells sizes =
     let operands : List ℕ = operand_words (map (λ (b : Block). b.words) blocks) job.terms in
-    ap (λ (x : ServerWords). bootstrapped x job.table (words_below (large_dim x.params + 1) (mixed_operands x.params job.terms job.constant operands)))
-    (basis_key-same k e)
+    job_words-of k job operands e
     ∙ ap (bootstrapped k job.table) (mixed_words-same k.params blocks job.terms job.constant cells sizes)
 
 pub length-bootstrapped : (k : ServerWords) (table input : List ℕ) → length (bootstrapped k table input) ≡ large_dim k.params + 1

@@ -8,4 +8,6 @@ pub mod TermBounds
 pub mod KeptCells
 pub mod KeptJob
 pub mod Keeping
+pub mod InputWords
+pub mod Boards
 mod Examples

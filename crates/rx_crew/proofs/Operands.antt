@@ -1,7 +1,8 @@
 -- The operands of a job as one list of words, and the blocks that they come from.
-use Rattle.std.proofs.Common.{◌≡◌, ℕ, zero, suc, ℤ, pos, ◌+ℤ◌, ◌*ℤ◌, ◌+◌, ◌-◌, ◌*◌, ◌<◌, List, [], ◌∷◌, ◌++◌, length, get_or, map, if◌then◌else◌, nat_lt, ◌∙◌, ap, arith, suc-mul}
+use Rattle.std.proofs.Common.{◌≡◌, ℕ, zero, suc, ℤ, pos, ◌+ℤ◌, ◌*ℤ◌, ◌+◌, ◌-◌, ◌*◌, ◌<◌, List, [], ◌∷◌, ◌++◌, length, get_or, map, if◌then◌else◌, nat_lt, ◌≤◌, sym, subst, ◌∙◌, ap, arith, suc-mul}
 use Rattle.std.specs.List.{AllByRecursion}
 use Rattle.std.proofs.lemmas.List.Elements.{All-from_recursion}
+use Rattle.std.proofs.Math.Nat.{mul-le-mul_right}
 use Rattle.std.proofs.lemmas.List.{get_or_append_left, get_or-append_right, get_or-map}
 use Rattle.rx_laws.specs.Torus.{word}
 use Rattle.rx_laws.specs.Words.{words_below}
@@ -22,6 +23,16 @@ cells-of n ts h k p = All-from_recursion (λ (t : Term). t.cell < n) ts h k no_t
 
 suc-mul-flip : (a b : ℕ) → suc a * b ≡ b + a * b
 suc-mul-flip a b = let e = suc-mul a b in let c : ℕ = a * b in omega arith
+
+-- the words of operand n are there, of so many operands of w words
+pub operand-within : (n count w size long : ℕ) → n < count → size ≡ w → long ≡ count * w → n * size + size ≤ long
+operand-within n count w size long low e f =
+    let next : suc n * w ≤ count * w = mul-le-mul_right w (omega arith) in
+    let row : suc n * w ≡ w + n * w = suc-mul-flip n w in
+    let a : ℕ = n * w in
+    let b : ℕ = count * w in
+    let all : a + w ≤ b = omega arith in
+    subst (λ (s : ℕ). n * s + s ≤ long) (sym e) (let h : a + w ≤ long = omega arith in h)
 
 -- word i of operand t, where each operand has w words
 operand-at : (w : ℕ) (cells : List (List ℕ)) (ts : List Term) (t i : ℕ) →

@@ -1,7 +1,7 @@
 -- Blocks in lists.
 use Rattle.std.proofs.Common.{◌≡◌, inl, inr, ℕ, ◌+◌, ◌-◌, ◌^◌, ◌<◌, List, [], ◌∷◌, ◌++◌, length, get_or, set, map, take, drop, replicate, subst, sym, ◌∙◌, ap, arith}
 use Rattle.std.proofs.lemmas.Bool.{cases_eq, cases_lt}
-use Rattle.std.proofs.lemmas.List.{length-set, length-take, length-replicate, get_or-set_same, get_or-set_other, get_or-replicate, get_or-take, take_more, take_more_set, set-append_right, map-append, length_push, get_or_append_left}
+use Rattle.std.proofs.lemmas.List.{length-set, get_or-set_same, get_or-set_other, take_more, take_more_set, set-append_right, map-append, length_push, get_or_append_left}
 use Rattle.std.proofs.Math.Seq.{take-length, take-append_seam}
 use Rattle.std.specs.Prelude.{EachIndex, slice_index}
 use Rattle.rx_params.specs.declared.params.Params.{Params}
@@ -21,16 +21,6 @@ are-set p xs i b h e c q =
           ∙ ap (λ (x : Block). length x.words) (get_or-set_same xs i b no_block (omega arith)) ∙ e
       | inr other ↦ ap (λ (x : Block). length x.words) (get_or-set_other xs i c b no_block other) ∙ h c inside
     ]
-
-pub are-take : (p : Params) (xs : List Block) (n : ℕ) → AreBlocksOf p xs → AreBlocksOf p (take n xs)
-are-take p xs n h c q =
-    let l = length-take n xs in
-    ap (λ (x : Block). length x.words) (get_or-take n xs c no_block (omega arith)) ∙ h c (omega arith)
-
-pub are-zero : (p : Params) (n : ℕ) → AreBlocksOf p (replicate n (zero_block p))
-are-zero p n c q =
-    ap (λ (x : Block). length x.words) (get_or-replicate n c (zero_block p) no_block (omega (arith, length-replicate n (zero_block p))))
-    ∙ length-replicate (large_dim p + 1) 0
 
 pub zero_block-made : (p : Params) (words : List ℕ) (made : Block) → words ≡ replicate (large_dim p + 1) 0 →
     made ≡ record { words = words; degree = 0; noise = 0 } → made ≡ zero_block p
@@ -69,11 +59,6 @@ words-more xs n b p h e = subst AreWordsOf (sym (take_more_set xs n b p)) (words
 
 pub words-all : (xs : List Block) (n : ℕ) → n ≡ length xs → AreWordsOf (take n xs) → AreWordsOf xs
 words-all xs n e h = subst AreWordsOf (ap (λ m. take m xs) e ∙ take-length xs) h
-
--- blocks that were made as zeros
-pub zeros-are : (p q : Params) (n : ℕ) (xs items : List Block) → q ≡ p → xs ≡ items → items ≡ replicate n (zero_block q) → AreBlocksOf p xs
-zeros-are p q n xs items e f g =
-    subst (AreBlocksOf p) (sym (f ∙ g ∙ ap (λ (x : Params). replicate n (zero_block x)) e)) (are-zero p n)
 
 -- a list that was written from end to end
 pub all-written : (xs ys : List Block) (n : ℕ) → length ys ≡ n → take n (ys ++ drop (length ys) xs) ≡ ys

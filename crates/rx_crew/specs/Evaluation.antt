@@ -1,5 +1,6 @@
 -- The evaluation of a net under a server key.
 use Rattle.std.specs.Prelude.{ℕ, ◌+◌, ◌^◌, ◌≡◌, ◌<◌, ◌≤◌, List, [], ◌∷◌, ◌++◌, length, map, get_or, drop, replicate, EachIndex, slice_index}
+use Rattle.std.specs.List.{flat_map}
 use Rattle.rx_params.specs.declared.params.Params.{Params}
 use Rattle.rx_params.specs.Derived.{large_dim}
 use Rattle.rx_net.specs.declared.net.Job.{Job}
@@ -35,6 +36,10 @@ job_block key job cells = record {
 -- a block of the set, before anything is written
 abbrev pub zero_block : Params → Block
 zero_block p = record { words = replicate (large_dim p + 1) 0; degree = 0; noise = 0 }
+
+-- the words of blocks, one block after another
+abbrev pub block_words : List Block → List ℕ
+block_words blocks = flat_map (λ (b : Block). b.words) blocks
 
 -- one block for each input cell, of the set's size and within the tags that the net declares
 pub record AreInputs (p : Params) (net : Net) (inputs : List Block) : Type 0 where

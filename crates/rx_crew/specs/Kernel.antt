@@ -1,5 +1,5 @@
 -- What a server key gives for a job: the bootstrap of the weighted sum of the operands.
-use Rattle.std.specs.Prelude.{ℕ, ℤ, pos, ◌+ℤ◌, ◌*ℤ◌, ◌+◌, ◌*◌, nat_lt, if◌then◌else◌, List, ◌++◌, length, get_or, take, drop}
+use Rattle.std.specs.Prelude.{ℕ, ℤ, pos, ◌+ℤ◌, ◌*ℤ◌, ◌+◌, ◌*◌, nat_lt, if◌then◌else◌, ◌≡◌, Option, Some, None, List, ◌++◌, length, get_or, take, drop}
 use Rattle.rx_laws.specs.Sum.{sum_to}
 use Rattle.rx_laws.specs.Words.{words_below}
 use Rattle.rx_laws.specs.Decode.{unit}
@@ -34,10 +34,15 @@ basis_key basis = record {
   switch = drop (boot_size (basis_params basis)) (drop 10 basis);
 }
 
+-- number i of the words of a term: the weight times the word of its operand, which stands after those of the terms before it
+abbrev pub weighted_operand : Params → List Term → List ℕ → ℕ → ℕ → ℤ
+weighted_operand p terms operands i t =
+    let x : Term = get_or terms t no_term in x.weight *ℤ pos (get_or operands (t * (large_dim p + 1) + i) 0)
+
 -- number i of the weighted sum of a job's operands, which stand one after another, the constant, in units, added to the body
 abbrev pub mixed_operands : Params → List Term → ℤ → List ℕ → ℕ → ℤ
 mixed_operands p terms constant operands i =
-    sum_to (length terms) (λ t. let x : Term = get_or terms t no_term in x.weight *ℤ pos (get_or operands (t * (large_dim p + 1) + i) 0))
+    sum_to (length terms) (weighted_operand p terms operands i)
     +ℤ (if nat_lt i (large_dim p) then pos 0 else pos (unit p.message_bits) *ℤ constant)
 
 -- the words of a job
@@ -45,3 +50,13 @@ unfoldable pub job_words : List ℕ → Job → List ℕ → List ℕ
 job_words basis job operands =
     let k : ServerWords = basis_key basis in
     bootstrapped k job.table (words_below (large_dim k.params + 1) (mixed_operands k.params job.terms job.constant operands))
+
+-- a kernel, as contracts see it: its key, and how many runs there were
+pub record KernelValue : Type 0 where
+  pub key : ServerWords
+  pub runs : ℕ
+
+-- the job that a kernel keeps is the one that it was told of, if it was told of any
+abbrev pub IsToldOf : ℕ → Option ℕ → Type 0
+IsToldOf kept None = Unit {0}
+IsToldOf kept (Some job) = kept ≡ job

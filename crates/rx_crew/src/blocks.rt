@@ -1,12 +1,13 @@
 //! Blocks in memory of their own: made as zeros, and copied.
-ghost use Rattle.std.specs.Prelude.{◌≡◌, ◌≤◌, ◌<◌, ◌^◌, IfOk, EachIndex, slice_index, length, take, replicate};
+ghost use Rattle.std.specs.Prelude.{◌≡◌, ◌+◌, ◌≤◌, ◌<◌, ◌^◌, IfOk, EachIndex, slice_index, length, take, replicate};
 ghost use Rattle.std.specs.List.{AllByRecursion};
 ghost use Rattle.rx_params.specs.Acceptance.{FieldsInRange};
 ghost use Rattle.rx_block.specs.Combine.{AreBlocksOf};
 ghost use Rattle.rx_block.specs.Outputs.{numbered_blocks};
-ghost use Rattle.rx_crew.specs.Evaluation.{zero_block, AreWordsOf};
+ghost use Rattle.rx_crew.specs.Evaluation.{zero_block, block_words, AreWordsOf};
 
 use rx_block::Block;
+use rx_net::Net;
 use rx_params::Params;
 use rx_torus::Words;
 use std::alloc::{AllocError, Global};
@@ -36,6 +37,36 @@ pub(crate) fn zero_blocks(alloc: Global, p: &Params, count: usize) -> Result<Vec
     Ok(blocks)
 }
 
+/// The blocks of the inputs of a net, and then one of zeros for each job.
+pub(crate) fn first_cells(
+    alloc: Global,
+    p: &Params,
+    net: &Net,
+    inputs: &[Block],
+) -> Result<Vec<Block>, AllocError>
+    requires fields { FieldsInRange p.now }
+    requires sizes { AreBlocksOf p.now inputs.now }
+    ensures inputs { IfOk result (λ cells. take (length inputs.now) cells.items ≡ inputs.now) }
+    ensures count { IfOk result (λ cells.
+        length cells.items ≡ length inputs.now + length net.now.jobs) }
+    ensures sizes { IfOk result (λ cells. AreBlocksOf p.now cells.items) }
+{
+    let mut cells = zero_blocks(alloc, p, inputs.len() + net.jobs.as_slice().len())?;
+    copy_blocks(p, inputs, &mut cells);
+    Ok(cells)
+}
+
+/// The words of blocks, one block after another.
+pub(crate) fn input_words(alloc: Global, inputs: &[Block]) -> Result<Vec<u64>, AllocError>
+    ensures { IfOk result (λ words. words.items ≡ block_words inputs.now) }
+{
+    let mut words = Vec::new(alloc);
+    for block in inputs {
+        words.extend_from_slice(block.words.as_slice())?;
+    }
+    Ok(words)
+}
+
 fn copy_words(from: &[u64], to: &mut [u64])
     requires { length from.now ≡ length to.old }
     ensures copied { to.new ≡ from.now }
@@ -56,7 +87,7 @@ fn copy_block(from: &Block, to: &mut Block)
 }
 
 /// Writes blocks over the first ones of the others.
-pub(crate) fn copy_blocks(p: &Params, from: &[Block], to: &mut [Block])
+fn copy_blocks(p: &Params, from: &[Block], to: &mut [Block])
     requires room { length from.now ≤ length to.old }
     requires sizes { AreBlocksOf p.now from.now }
     requires room_sizes { AreBlocksOf p.now to.old }

@@ -8,6 +8,7 @@ mod gate;
 mod jobs;
 mod kernel;
 mod laws;
+mod mixing;
 mod run;
 
 pub use board::{MOST_BOARD_WORDS, MOST_WORKERS, board_words};

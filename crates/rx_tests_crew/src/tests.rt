@@ -116,8 +116,8 @@ fn two_jobs_are_run(rt: HostRuntime) -> Result<(), Fail> {
         block(alloc, p, &secret, 0, 3)?,
         block(alloc, p, &secret, 1, 2)?,
     ];
-    let report = run_net(&rt, alloc, &net, &key, &inputs, 2, &OpenGate)?;
-    assert_eq!(rt; (report.ran, report.finished), (0, 2));
+    let report = run_net(&rt, alloc, &net, &key, &inputs, 1, &OpenGate)?;
+    assert_eq!(rt; (report.ran, report.finished), (2, 0));
     assert_eq!(rt; report.outputs.len(), 3);
     for (block, (value, degree)) in report.outputs.iter().zip([(2, 3), (1, 2), (3, 3)]) {
         assert_eq!(rt; block.words.as_slice().len(), 257);

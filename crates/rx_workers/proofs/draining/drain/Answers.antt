@@ -1,0 +1,41 @@
+use Rattle.std.proofs.Common.{◌≡◌, [], ◌∷◌, ◌++◌, ap, ◌∙◌, arith}
+use Rattle.rx_board.specs.Rule.{job_count}
+use Rattle.rx_workers.proofs.Turns.{missing, keeps_on, taken_more, taken_keeps, missing_less}
+use Rattle.rx_workers.proofs.draining.drain.Goals as goal
+
+pub loop-refusals-smaller-in-Ran : goal.loop-refusals-smaller-in-Ran
+loop-refusals-smaller-in-Ran g c = let t = c.in-Ran.ensures.told in let less = missing_less (job_count c.args.board.now.plan) c.loop-refusals.worker.seat.view.ran c.in-Ran.field-0 t.0 t.2 in
+    let same : missing (job_count c.args.board.now.plan) c.step.new.seat.view.ran ≡ missing (job_count c.args.board.now.plan) (c.loop-refusals.worker.seat.view.ran ++ c.in-Ran.field-0 ∷ []) = ap (missing (job_count c.args.board.now.plan)) t.1 in
+    omega arith
+
+pub loop-refusals-preserved-in-Ran : goal.loop-refusals-preserved-in-Ran
+loop-refusals-preserved-in-Ran g c = let inv = c.loop-refusals.invariant in let k = taken_keeps _ _ c.step.ensures.keeps in record {
+  fit = record {
+    seat = c.step.ensures.seat.0;
+    desk = c.step.ensures.desk ∙ inv.fit.desk;
+    kernel = record {
+      basis_is = c.step.ensures.kernel.0 ∙ inv.fit.kernel.basis_is;
+      width_is = c.step.ensures.kernel.1 ∙ inv.fit.kernel.width_is;
+      space_is = c.step.ensures.kernel.2 ∙ inv.fit.kernel.space_is;
+      idle = c.step.ensures.idle;
+    };
+  };
+  keeps = keeps_on _ _ _ inv.keeps c.step.ensures.keeps;
+  enough = let e = inv.enough in omega arith;
+}
+
+pub loop-refusals-preserved : goal.loop-refusals-preserved
+loop-refusals-preserved g c = let inv = c.loop-refusals.invariant in let t = c.in-NotReady.ensures.told in let k = taken_more _ _ _ t.1 in record {
+  fit = record {
+    seat = c.step.ensures.seat.0;
+    desk = c.step.ensures.desk ∙ inv.fit.desk;
+    kernel = record {
+      basis_is = c.step.ensures.kernel.0 ∙ inv.fit.kernel.basis_is;
+      width_is = c.step.ensures.kernel.1 ∙ inv.fit.kernel.width_is;
+      space_is = c.step.ensures.kernel.2 ∙ inv.fit.kernel.space_is;
+      idle = c.step.ensures.idle;
+    };
+  };
+  keeps = keeps_on _ _ _ inv.keeps c.step.ensures.keeps;
+  enough = let e = inv.enough in omega arith;
+}

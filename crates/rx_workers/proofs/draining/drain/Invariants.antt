@@ -1,0 +1,16 @@
+use Rattle.std.proofs.Common.{◌-◌, ◌≤◌, ◌+◌}
+use Rattle.rx_board.specs.Rule.{job_count}
+use Rattle.rx_board.specs.Tells.{Keeps}
+use Rattle.rx_workers.specs.Crew.{IsFit, taken_in}
+use Rattle.rx_workers.proofs.Turns.{missing}
+use Rattle.rx_workers.proofs.draining.drain.Given as goal
+
+abbrev pub invariant-loop-refusals : goal.invariant-loop-refusals
+invariant-loop-refusals g l = record {
+  fit : IsFit g.K.Kernel.basis g.K.Kernel.width g.K.Kernel.space g.K.Kernel.told l.board l.worker;
+  keeps : Keeps l.initial.worker.seat.view l.worker.seat.view;
+  enough : l.refusals ≤ taken_in l.worker.seat.view.met;
+}
+
+abbrev pub decreases-loop-refusals : goal.decreases-loop-refusals
+decreases-loop-refusals g l = (1048576 - l.refusals) + missing (job_count l.board.plan) l.worker.seat.view.ran
