@@ -1,7 +1,8 @@
 pub mod MaskProducts
 pub mod LevelSums
-pub mod Columns
+pub mod DigitLevels
 pub mod Extractions
 pub mod Rows
 pub mod ExternalSums
+pub mod DrawnMasks
 mod Examples

@@ -8,11 +8,13 @@ mod external;
 mod extract;
 mod row;
 mod scratch;
+mod seeded_row;
 
 pub use external::external_add;
 pub use extract::extract_into;
 pub use row::encrypt_row_into;
 pub use scratch::GlweScratch;
+pub use seeded_row::row_of_body;
 
 #[cfg(test)]
 mod tests;

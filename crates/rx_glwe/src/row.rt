@@ -18,7 +18,7 @@ use rx_torus::Stream;
 /// Writes the words that hide a polynomial under the large key into `out`: `glwe_dim` mask polynomials, the
 /// next words of `mask`, and then the body, with the next `poly_size` numbers of `noise`, from
 /// `-2^glwe_bound` to `2^glwe_bound`. The polynomial to hide has `poly_size` words, `out` has `glwe_dim + 1`
-/// polynomials, and `scratch` has at least two, of which nothing is read and nothing is kept.
+/// polynomials, and `scratch` has at least two, of which nothing is read and nothing is kept. With three it is fast.
 #[tactic(auto, unfolding(rx_params::specs::Derived::large_dim))]
 pub fn encrypt_row_into(
     p: &Params,

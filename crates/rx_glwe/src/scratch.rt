@@ -7,7 +7,7 @@ use std::alloc::{AllocError, Global};
 use std::marker::Model;
 
 /// Room for the external products of a set: the digits of one polynomial at all `pbs_level` levels, and the
-/// two polynomials of words that a product needs. Contracts see the set that it was made for.
+/// four polynomials of words that a product needs to be fast. Contracts see the set that it was made for.
 #[derive(Drop)]
 pub struct GlweScratch {
     params: Params,
@@ -24,7 +24,7 @@ impl Model for GlweScratch {
     ghost view = { λ s. s.params };
 
     ghost invariant = { λ s. (length s.digits.items ≡ s.params.pbs_level * s.params.poly_size)
-        × (length s.product.items ≡ 2 * s.params.poly_size) };
+        × (length s.product.items ≡ 4 * s.params.poly_size) };
 }
 
 impl GlweScratch {
@@ -37,7 +37,7 @@ impl GlweScratch {
         Ok(GlweScratch {
             params: *p,
             digits: vec![in alloc; 0; p.pbs_level as usize * n]?,
-            product: vec![in alloc; 0; 2 * n]?,
+            product: vec![in alloc; 0; 4 * n]?,
         })
     }
 }

@@ -1,7 +1,7 @@
 //! A polynomial that comes back from a row, a gadget that gives its input back, and worked places.
 ghost use Rattle.std.specs.Prelude.{◌≡◌, length};
 
-use crate::{GlweScratch, encrypt_row_into, external_add, extract_into};
+use crate::{GlweScratch, encrypt_row_into, external_add, extract_into, row_of_body};
 use rx_lwe::{SecretKey, decode, phase, unit};
 use rx_params::named;
 use rx_poly::binary_product_add;
@@ -48,6 +48,9 @@ fn a_row_hides_a_polynomial(rt: HostRuntime) -> Result<(), Fail> {
         &mut row,
         &mut scratch,
     );
+    let mut again = [0u64; 512];
+    row_of_body(&p, &mut Stream::new(&[8; 32], 0), &row[256..], &mut again);
+    assert_eq!(rt; again, row);
     for (i, phase) in phases(&key, &row).iter().enumerate() {
         assert!(rt; *phase != hidden[i], "no noise at {i}");
         assert_eq!(rt; u64::from(decode(*phase, 2)), i as u64 % 32, "at {i}");

@@ -4,6 +4,10 @@
 #![tactic(auto)]
 
 mod boxes;
+mod karatsuba;
+mod lanes;
+mod leaf;
+mod plain;
 mod products;
 mod rotations;
 mod sums;
@@ -11,6 +15,7 @@ mod sums;
 mod tests;
 
 pub use boxes::accumulator;
+pub use plain::linear_add;
 pub use products::{binary_product_add, product_add};
 pub use rotations::{rotate_into, turn_away_into};
 pub use sums::add_assign;

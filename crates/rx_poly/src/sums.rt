@@ -1,15 +1,40 @@
 //! Sums of polynomials, and of their multiples.
-ghost use Rattle.std.specs.Prelude.{◌≡◌, pos, ◌+ℤ◌, ◌*ℤ◌, ◌+◌, ◌<◌, length};
+ghost use Rattle.std.specs.Prelude.{◌≡◌, pos, neg_ℤ, ◌+ℤ◌, ◌-ℤ◌, ◌*ℤ◌, ◌+◌, ◌<◌, length};
 ghost use Rattle.rx_laws.specs.Words.{AreWords, of_words, of_numbers};
 ghost use Rattle.rx_poly.specs.Turns.{convolved};
+
+use crate::lanes::{LANES, add_vectors, negate_vectors, subtract_vectors};
 
 /// Adds `other` to `acc`, of the same length, coefficient by coefficient, modulo 2^64.
 pub fn add_assign(acc: &mut [u64], other: &[u64])
     requires { length other.now ≡ length acc.old }
     ensures { AreWords (length acc.old) (λ i. of_words acc.old i +ℤ of_words other.now i) acc.new }
 {
-    for i in 0..acc.len() {
+    add_vectors(acc, other);
+    for i in LANES * (acc.len() / LANES)..acc.len() {
         acc[i] = acc[i].wrapping_add(other[i]);
+    }
+}
+
+/// Takes `other` from `acc`, of the same length, coefficient by coefficient, modulo 2^64.
+pub(crate) fn subtract_assign(acc: &mut [u64], other: &[u64])
+    requires { length other.now ≡ length acc.old }
+    ensures { AreWords (length acc.old) (λ i. of_words acc.old i -ℤ of_words other.now i) acc.new }
+{
+    subtract_vectors(acc, other);
+    for i in LANES * (acc.len() / LANES)..acc.len() {
+        acc[i] = acc[i].wrapping_sub(other[i]);
+    }
+}
+
+/// Writes `words` with their signs turned into `out`, which has the same length, modulo 2^64.
+pub(crate) fn negate_into(out: &mut [u64], words: &[u64])
+    requires { length words.now ≡ length out.old }
+    ensures { AreWords (length out.old) (λ i. neg_ℤ (of_words words.now i)) out.new }
+{
+    negate_vectors(out, words);
+    for i in LANES * (out.len() / LANES)..out.len() {
+        out[i] = words[i].wrapping_neg();
     }
 }
 
@@ -68,7 +93,7 @@ fn add_four_terms(acc: &mut [u64], digits: &[i64], words: &[u64])
 }
 
 /// Adds `factor` times `other` to `acc`, coefficient by coefficient, modulo 2^64.
-fn add_multiple(acc: &mut [u64], factor: u64, other: &[u64])
+pub(crate) fn add_multiple(acc: &mut [u64], factor: u64, other: &[u64])
     requires { length other.now ≡ length acc.old }
     ensures { AreWords
         (length acc.old)

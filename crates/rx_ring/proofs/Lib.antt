@@ -1,4 +1,5 @@
 pub mod Polynomial
+pub mod Linear
 pub mod Rotation
 pub mod Monomial
 pub mod Greatest

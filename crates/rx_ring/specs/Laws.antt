@@ -5,6 +5,7 @@ use Rattle.rx_laws.specs.Torus.{word, distance}
 use Rattle.rx_laws.specs.Digits.{digit}
 use Rattle.rx_laws.specs.Lwe.{lwe_phase}
 use Rattle.rx_ring.specs.Polynomial.{product, rotated, turns, monomial}
+use Rattle.rx_ring.specs.Linear.{raised, linear, high_half, half_sum, middle}
 use Rattle.rx_ring.specs.Parts.{of_parts, AreParts}
 use Rattle.rx_ring.specs.Glwe.{glwe_phase, glwe_hiding, external, extracted, flat}
 use Rattle.rx_ring.specs.Keys.{level_weight, IsBitKey, ggsw_hidden, IsGgsw}
@@ -26,6 +27,24 @@ pub record ProductLaws : Type 0 where
   pub turns_add : (n : ℕ) (a : ℕ → ℤ) (s t i : ℕ) → turns n (turns n a s) t i ≡ turns n a (s + t) i
   pub whole_turn : (n : ℕ) (a : ℕ → ℤ) (i : ℕ) → i < n → turns n a (2 * n) i ≡ a i
   pub turn_keeps_distance : (n : ℕ) (a : ℕ → ℤ) (t : ℕ) → greatest_distance n (turns n a t) ≡ greatest_distance n a
+
+-- The plain product of two polynomials of 2 * h coefficients comes from three of h: that of the first halves stands at 0, that
+-- of the second ones at 2 * h, and the middle at h. The product modulo X ^ n + 1 is a plain one folded; so each of the three is
+-- added to both halves of it, with the sign that X ^ (2 * h) = -1 gives.
+pub record LinearLaws : Type 0 where
+  pub from_halves : (h : ℕ) (a b : ℕ → ℤ) (i : ℕ) → linear (h + h) a b i ≡
+      (linear h a b i +ℤ raised h (middle h a b) i) +ℤ raised (h + h) (linear h (high_half h a) (high_half h b)) i
+  pub folds : (n : ℕ) (a b : ℕ → ℤ) (i : ℕ) → i < n → product n a b i ≡ linear n a b i -ℤ linear n a b (n + i)
+  pub folds_low : (h : ℕ) (a b : ℕ → ℤ) (i : ℕ) → i < h → product (h + h) a b i ≡
+      ((linear h a b i +ℤ linear h a b (h + i))
+      +ℤ (linear h (high_half h a) (high_half h b) (h + i) -ℤ linear h (high_half h a) (high_half h b) i))
+      -ℤ linear h (half_sum h a) (half_sum h b) (h + i)
+  pub folds_high : (h : ℕ) (a b : ℕ → ℤ) (i : ℕ) → i < h → product (h + h) a b (h + i) ≡
+      ((linear h a b (h + i) -ℤ linear h a b i)
+      -ℤ (linear h (high_half h a) (high_half h b) i +ℤ linear h (high_half h a) (high_half h b) (h + i)))
+      +ℤ linear h (half_sum h a) (half_sum h b) i
+  pub of_words : (n : ℕ) (a b c d : ℕ → ℤ) (i : ℕ) → ((k : ℕ) → k < n → word (a k) ≡ word (c k)) →
+      ((k : ℕ) → k < n → word (b k) ≡ word (d k)) → word (linear n a b i) ≡ word (linear n c d i)
 
 -- The phase of a ciphertext that hides a polynomial is that polynomial and the noise, coefficient by coefficient. Rows that hide
 -- what those of an encrypted bit have to hide are an encryption of the bit.

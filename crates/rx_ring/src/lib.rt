@@ -3,7 +3,7 @@
 //! docs/NOISE.md, The proof: each function has an empty body, and its contract is the law.
 #![tactic(auto)]
 
-ghost use Rattle.rx_ring.specs.Laws.{ProductLaws, GlweLaws, ExtractionLaws, ExternalProductLaws, TurnLaws};
+ghost use Rattle.rx_ring.specs.Laws.{ProductLaws, LinearLaws, GlweLaws, ExtractionLaws, ExternalProductLaws, TurnLaws};
 ghost use Rattle.rx_ring.specs.BootstrapLaws.{CombinationLaws, KeySwitchLaws, ModulusSwitchLaws, AccumulatorLaws, BootstrapLaws};
 
 /// The product of polynomials of n coefficients is linear in each argument, commutative and associative,
@@ -11,6 +11,12 @@ ghost use Rattle.rx_ring.specs.BootstrapLaws.{CombinationLaws, KeySwitchLaws, Mo
 /// nothing, and the greatest distance of the coefficients is the same after a turn.
 pub fn product_laws()
     ensures { ProductLaws }
+{}
+
+/// The plain product of two polynomials of 2h coefficients comes from three of h, and the product modulo
+/// `X^n + 1` is a plain one folded. Modulo 2^64 both depend on the words alone.
+pub fn linear_laws()
+    ensures { LinearLaws }
 {}
 
 /// A ciphertext that hides a polynomial has that polynomial, and its noise, as its phase, coefficient by

@@ -1,5 +1,5 @@
 -- Worked values of the definitions.
-use Rattle.std.proofs.Common.{◌≡◌, pos, negsuc, [], ◌∷◌, refl, ◌-◌, ◌*◌, ◌^◌, replicate}
+use Rattle.std.proofs.Common.{◌≡◌, pos, negsuc, [], refl, ◌-◌, ◌*◌, ◌^◌, replicate}
 use Rattle.rx_laws.specs.Torus.{word, distance}
 use Rattle.rx_laws.specs.Digits.{rounded, rests, digit}
 use Rattle.rx_torus.specs.declared.kind.StreamKind.TheVariants.{SmallKey, BootMask, BlockNoise}
@@ -7,6 +7,7 @@ use Rattle.rand_core.specs.Steps.{u32_at}
 use Rattle.rand_chacha.specs.Block.{quarter_round, column_round, diagonal_round, double_rounds, block_word}
 use Rattle.rx_torus.specs.Streams.{torus_at, torus_word, draw, uniform, drawn_by, stream_of}
 use Rattle.rx_torus.specs.Kinds.{stream_number}
+use Rattle.rx_torus.specs.Offsets.{halves, offset}
 
 -- the two ends of a draw have one word each, the others two
 uniform-ends : (uniform 17 0 ≡ negsuc 131071) × (uniform 17 1 ≡ negsuc 131070) × (uniform 17 2 ≡ negsuc 131070) × (uniform 17 524286 ≡ pos 131071) × (uniform 17 524287 ≡ pos 131072)
@@ -56,3 +57,8 @@ published = (refl, refl)
 second_draw : draw (drawn_by 1 (stream_of (replicate 32 0) 0)) 0 ≡ 0x28bd_8653_e56a_5d40
 unfolding torus_at u32_at quarter_round column_round diagonal_round double_rounds block_word
 second_draw = refl
+
+-- half of each of two digits of twelve bits, and half of the last place below them
+offset-two_digits : offset 12 2 ≡ 0x8008_0080_0000_0000
+unfolding offset halves
+offset-two_digits = refl

@@ -1,1 +1,2 @@
+pub mod Offset
 mod Examples

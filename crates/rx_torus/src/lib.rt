@@ -10,7 +10,7 @@ mod words;
 
 pub use kind::StreamKind;
 pub use nearest::{distance, round_to};
-pub use signed_digits::digits;
+pub use signed_digits::{digits, level_digits};
 pub use stream::Stream;
 pub use words::Words;
 

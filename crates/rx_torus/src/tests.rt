@@ -1,5 +1,5 @@
 //! Values from outside: the published ChaCha20 words of an all-zero key, and worked rows.
-use crate::{Stream, StreamKind, Words, digits, distance, round_to};
+use crate::{Stream, StreamKind, Words, digits, distance, level_digits, round_to};
 
 const ZERO_SEED: [u8; 32] = [0; 32];
 
@@ -41,6 +41,21 @@ fn a_word_has_its_digits(rt: HostRuntime) {
         digits(word, 12, 2, &mut out);
         assert_eq!(rt; out, [high, low], "of {word}");
     }
+}
+
+#[test]
+fn words_have_the_digits_of_a_level(rt: HostRuntime) {
+    let words = [
+        0x8000_0000_0000_0000_u64,
+        0x7FFF_FF80_0000_0000,
+        0x0008_0100_0000_0000,
+        0xFFFF_FF80_0000_0000,
+    ];
+    let mut out = [7i64; 4];
+    level_digits(&words, 12, 2, 0, &mut out);
+    assert_eq!(rt; out, [-2048, -2048, 1, 0]);
+    level_digits(&words, 12, 2, 1, &mut out);
+    assert_eq!(rt; out, [0, 0, -2047, 0]);
 }
 
 #[test]

@@ -1,0 +1,19 @@
+use Rattle.std.proofs.Common.{ℕ, ℤ, ◌+ℤ◌, ◌+◌, ◌*◌, ◌%◌, ◌^◌, List, get_or, sym, arith}
+use lib.Lanes.{chunk, zip2}
+use Rattle.rx_laws.specs.Words.{of_words}
+use Rattle.rx_laws.proofs.Torus.{word_of}
+use Rattle.rx_poly.proofs.Vectors.{lanes_read, lanes_both, lanes_same, vector_written}
+use Rattle.rx_poly.proofs.lanes.sum_vectors.Goals as goal
+
+pub loop-vector-preserved : goal.loop-vector-preserved
+loop-vector-preserved c =
+    let i : ℕ = 4 * c.loop-vector.vector in
+    let xs : List ℕ = c.args.first.now in
+    let ys : List ℕ = c.args.second.now in
+    let add : ℕ → ℕ → ℕ = λ x y. (x + y) % 2 ^ 64 in
+    let f : ℕ → ℤ = λ k. of_words xs k +ℤ of_words ys k in
+    vector_written 4 i (4 * (c.loop-vector.vector + 1)) f c.args.out.now c.loop-vector.out (zip2 add (chunk i 4 xs) (chunk i 4 ys))
+    (omega arith) (omega arith) c.loop-vector.invariant
+    (lanes_same 4 _ _ _
+    (lanes_both 4 add _ _ _ _ (lanes_read 4 i xs (omega arith)) (lanes_read 4 i ys (omega arith)))
+    (λ k p. sym (word_of (get_or xs (i + k) 0 + get_or ys (i + k) 0))))

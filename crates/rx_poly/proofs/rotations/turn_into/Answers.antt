@@ -1,0 +1,29 @@
+use Rattle.std.proofs.Common.{◌≡◌, ℕ, ℤ, pos, neg_ℤ, ◌+◌, ◌-◌, List, length, get_or, ap, sym, ◌∙◌, arith}
+use Rattle.std.proofs.lemmas.List.{get_or-take}
+use Rattle.rx_laws.specs.Torus.{word}
+use Rattle.rx_laws.specs.Words.{of_words}
+use Rattle.rx_laws.proofs.Torus.{word_of_word}
+use Rattle.rx_ring.specs.Polynomial.{turned}
+use Rattle.rx_ring.proofs.Parts.{part_read}
+use Rattle.rx_ring.proofs.Polynomial.{turned_low, turned_high}
+use Rattle.rx_poly.proofs.Halves.{two_parts}
+use Rattle.rx_poly.proofs.rotations.turn_into.Goals as goal
+
+pub returns : goal.returns
+returns c =
+    let n : ℕ = length c.args.out.now in
+    let t : ℕ = c.args.turn in
+    let bs : List ℕ = c.args.poly.now in
+    let b : ℕ → ℤ = of_words bs in
+    let kept : ℕ = length bs - t in
+    two_parts n t (turned n b t) c.negate_into.new.out c.copy_from_slice.new.self c.requires.turn_in (omega arith) (omega arith)
+    (λ j r.
+    let place : kept + j ≡ j + n - t = omega arith in
+    c.negate_into.ensures.each j (omega arith)
+    ∙ ap (λ x. word (neg_ℤ (pos x))) (part_read kept (length bs - kept) j bs (omega arith))
+    ∙ ap (λ x. word (neg_ℤ (b x))) place ∙ ap word (sym (turned_high n b t j r)))
+    (λ j r.
+    let place : j ≡ t + j - t = omega arith in
+    ap (λ xs. get_or xs j 0) c.copy_from_slice.ensures.after ∙ get_or-take kept bs j 0 (omega arith)
+    ∙ sym (word_of_word (get_or bs j 0) (omega (arith, c.type_inv.poly j)))
+    ∙ ap (λ x. word (b x)) place ∙ ap word (sym (turned_low n b t (t + j) (omega arith))))
