@@ -1,0 +1,33 @@
+-- The cost table at worked values.
+use Rattle.std.proofs.Common.{◌≡◌, refl}
+use Rattle.rx_costs.specs.Logs.{log_from, log_up}
+use Rattle.rx_costs.specs.Rounds.{groups, rounds_in, rounds, round_jobs_in, round_jobs}
+use Rattle.rx_costs.specs.Table.{add_jobs, add_depth, mul_jobs, mul_depth, amount_shift_jobs, amount_shift_depth, signed_shift_jobs, equal_depth, compare_depth, extreme_jobs, extreme_depth, cast_jobs}
+
+logs : (log_up 2 0 ≡ 0) × (log_up 2 1 ≡ 0) × (log_up 2 2 ≡ 1) × (log_up 2 5 ≡ 3) × (log_up 2 32 ≡ 5) × (log_up 2 33 ≡ 6) × (log_up 5 25 ≡ 2) × (log_up 5 26 ≡ 3)
+unfolding log_from log_up
+logs = (refl, refl, refl, refl, refl, refl, refl, refl)
+
+-- a sum of four blocks
+add_four : (add_jobs 4 ≡ 13) × (add_depth 4 ≡ 4)
+unfolding log_from log_up
+add_four = (refl, refl)
+
+-- a product of 32 blocks of two message bits: over the counts 63, 26, 12, 6 and 4
+mul_long : (rounds 5 63 ≡ 5) × (round_jobs 32 5 63 ≡ 1600) × (add_jobs 32 ≡ 218) × (mul_jobs 2 32 ≡ 2842) × (mul_depth 2 32 ≡ 13)
+unfolding log_from log_up groups rounds_in rounds round_jobs_in round_jobs
+mul_long = (refl, refl, refl, refl, refl)
+
+-- ---- at 64 bits in 32 blocks of two message bits, and in 24 bits in 8 blocks of three
+shifts : (amount_shift_jobs (log_up 2 64) 32 ≡ 839) × (amount_shift_depth (log_up 2 64) ≡ 14) × (signed_shift_jobs (log_up 2 24) 8 ≡ 199)
+unfolding log_from log_up
+shifts = (refl, refl, refl)
+
+-- groups of five and of nine, and pairs
+comparisons : (equal_depth 2 32 ≡ 4) × (equal_depth 3 8 ≡ 2) × (compare_depth 32 ≡ 6) × (extreme_depth 32 ≡ 8) × (extreme_jobs 32 ≡ 159)
+unfolding log_from log_up
+comparisons = (refl, refl, refl, refl, refl)
+
+-- from two blocks to four, and back
+casts : (cast_jobs 2 4 ≡ 2) × (cast_jobs 4 2 ≡ 0)
+casts = (refl, refl)

@@ -1,0 +1,4 @@
+pub mod Logs
+pub mod Rounds
+pub mod Table
+pub mod Laws

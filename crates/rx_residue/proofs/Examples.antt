@@ -1,0 +1,11 @@
+-- Residues and signed numbers of four bits and of 64.
+use Rattle.std.proofs.Common.{◌≡◌, ◌^◌, ◌-◌, pos, negsuc, refl}
+use Rattle.rx_residue.specs.Residues.{residue, signed}
+
+four : (signed 4 7 ≡ pos 7) × (signed 4 8 ≡ negsuc 7) × (signed 4 9 ≡ negsuc 6) × (signed 4 15 ≡ negsuc 0) × (residue 4 (negsuc 6) ≡ 9) × (residue 4 (pos 16) ≡ 0)
+unfolding signed residue
+four = (refl, refl, refl, refl, refl, refl)
+
+long : (signed 64 (2 ^ 63) ≡ negsuc (2 ^ 63 - 1)) × (residue 64 (negsuc 0) ≡ 2 ^ 64 - 1)
+unfolding signed residue
+long = (refl, refl)
