@@ -1,0 +1,11 @@
+pub mod Loops
+pub mod Steps
+pub mod Lookups
+pub mod Drafts
+pub mod Found
+pub mod Spellings
+pub mod Taken
+pub mod Lines
+pub mod RoundTrip
+pub mod Written
+pub mod Examples

@@ -1,0 +1,9 @@
+pub mod Words
+pub mod Kinds
+pub mod Programs
+pub mod Texts
+pub mod Reading
+pub mod Answers
+pub mod Drafts
+pub mod Writing
+pub mod Laws
