@@ -24,8 +24,8 @@ use Rattle.rx_params.specs.declared.kind.Kind.{Kind}
 use Rattle.rx_params.specs.declared.kind.Kind.TheVariants.{Int, Bit}
 use Rattle.rx_circuit.specs.declared.values.ValueLine.{ValueLine}
 use Rattle.rx_circuit.proofs.Loop.{goes_on, stops}
-use Rattle.rx_circuit.specs.declared.error.ParseError.{ParseError}
-use Rattle.rx_circuit.specs.Reading.{Gives}
+use Rattle.rx_language.specs.declared.error.ParseError.{ParseError}
+use Rattle.rx_language.specs.Answers.{Gives}
 use Rattle.rx_circuit.specs.Values.{kind_word, values_text, is_width, has_name, IsValueLine, NamesOnce, AreValues, ValuesText, kind_of, line_parts, spelled_line, line_after, lines_from, values_from}
 
 -- the laws of texts that the round trip stands on

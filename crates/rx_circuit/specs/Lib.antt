@@ -1,2 +1,4 @@
 pub mod Values
 pub mod Reading
+pub mod Inputs
+pub mod Outputs

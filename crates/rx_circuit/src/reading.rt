@@ -4,9 +4,11 @@ ghost use Rattle.rx_text.specs.Faults.{fault_at};
 ghost use Rattle.rx_text.specs.Lines.{words_of};
 ghost use Rattle.rx_circuit.specs.declared.values.ValueLine.{ValueLine as Line};
 ghost use Rattle.rx_circuit.specs.Values.{ValuesText, kind_of, is_width, has_name, spelled_line, line_after, values_from};
-ghost use Rattle.rx_circuit.specs.Reading.{Gives, GivesItems, held_line, ranged_line};
+ghost use Rattle.rx_language.specs.Answers.{Gives, GivesItems};
+ghost use Rattle.rx_circuit.specs.Reading.{held_line, ranged_line};
 
-use crate::{ParseError, ValueLine, Values};
+use crate::{ValueLine, Values};
+use rx_language::ParseError;
 use rx_params::{Kind, LineCause, LineFault, Name};
 use rx_text::{Lines, Numeral, four_words, line_laws, numeral_laws, word_laws};
 use std::alloc::Global;

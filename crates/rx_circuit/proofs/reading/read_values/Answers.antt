@@ -1,6 +1,6 @@
 use Rattle.std.proofs.Common.{List, Result, Ok, Err}
 use Rattle.std.proofs.lemmas.Result.{err_from_is_err_and}
-use Rattle.rx_circuit.specs.declared.error.ParseError.{ParseError}
+use Rattle.rx_language.specs.declared.error.ParseError.{ParseError}
 use Rattle.rx_circuit.specs.declared.values.ValueLine.{ValueLine}
 use Rattle.rx_circuit.proofs.RoundTrip.{TextLaws, only_by, values_found}
 use Rattle.rx_circuit.proofs.reading.read_values.Goals as goal
