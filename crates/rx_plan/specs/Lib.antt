@@ -1,0 +1,5 @@
+pub mod Tables
+pub mod Values
+pub mod Planned
+pub mod Rows
+pub mod Results
