@@ -1,0 +1,4 @@
+pub mod Selection
+pub mod Groups
+pub mod Equality
+pub mod Order

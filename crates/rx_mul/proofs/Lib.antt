@@ -1,0 +1,4 @@
+pub mod PairRows
+pub mod Grouped
+pub mod Reduction
+pub mod LastSum
