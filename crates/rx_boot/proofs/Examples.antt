@@ -15,6 +15,8 @@ use Rattle.rx_params.specs.Derived.{large_dim, rest_of, step_of, boot_of, base_o
 use Rattle.rx_params.specs.Sets.{set_of, rx_2_2, rx_test}
 use Rattle.rx_boot.specs.BootKeys.{ggsw_row_count, boot_row_count, boot_size, boot_rows, row_hidden}
 use Rattle.rx_boot.specs.ServerKeys.{ServerWords}
+use Rattle.rx_lwe.specs.Seeded.{switch_bodies}
+use Rattle.rx_boot.specs.Seeded.{body_size, boot_bodies, key_bodies}
 use Rattle.rx_boot.specs.Noise.{IsNear, input_noise}
 use Rattle.rx_boot.specs.Bootstrap.{half_box, half_mark, bootstrapped}
 
@@ -67,3 +69,15 @@ greatest_noise = refl
 near : IsNear rx_test (1 ∷ 0 ∷ []) (7 ∷ 9 ∷ (3 * unit 2 + 7 - 1000) ∷ []) 3 1000
 unfolding lwe_phase sum_to word distance
 near = omega arith
+
+-- ---- bodies: 8,192 words of bootstrapping rows and 1,536 of switch rows; of a toy the second word of each row
+body_count : body_size rx_test ≡ 9728
+unfolding large_dim
+body_count = refl
+
+abbrev few_words : ServerWords
+few_words = record { params = set_of 2 1 1 1 1 1 1 1 0 0; boot = 1 ∷ 2 ∷ 3 ∷ 4 ∷ []; switch = 5 ∷ 6 ∷ [] }
+
+few_bodies : key_bodies few_words ≡ 2 ∷ 4 ∷ 6 ∷ []
+unfolding large_dim boot_bodies switch_bodies
+few_bodies = refl

@@ -6,4 +6,5 @@ pub mod MarkPowers
 pub mod Turning
 pub mod Budget
 pub mod Lookup
+pub mod SeededKeys
 mod Examples

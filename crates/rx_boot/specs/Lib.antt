@@ -4,3 +4,5 @@ pub mod Bootstrap
 pub mod Laws
 pub mod Noise
 pub mod NoiseLaws
+pub mod Seeded
+pub mod SeededLaws

@@ -11,6 +11,7 @@ mod marks;
 mod rotation;
 mod rows;
 mod scratch;
+mod seeded;
 mod server_key;
 mod word_counts;
 
@@ -18,6 +19,7 @@ pub use boot_key::BootKey;
 pub use bootstrap::bootstrap_into;
 pub use laws::{budget_laws, lookup_laws};
 pub use scratch::BootScratch;
+pub use seeded::{body_words, seeded_key_laws};
 pub use server_key::{ServerKey, server_key_laws};
 pub use word_counts::{boot_words, switch_words};
 

@@ -31,7 +31,7 @@ pub(crate) fn made_words(
     let n = p.poly_size as usize;
     let count = p.glwe_dim as usize + 1;
     let rows = p.lwe_dim as usize * (count * p.pbs_level as usize);
-    let mut room = vec![in alloc; 0; 3 * n]?;
+    let mut room = vec![in alloc; 0; 4 * n]?;
     let mut words = vec![in alloc; 0; rows * (count * n)]?;
     write_rows(
         p, small, large, mask_seed, noise_seed, &mut room, &mut words,
@@ -39,7 +39,7 @@ pub(crate) fn made_words(
     Ok(words)
 }
 
-/// Writes all rows, in order. There is room for three polynomials.
+/// Writes all rows, in order. There is room for four polynomials.
 fn write_rows(
     p: &Params,
     small: &SecretKey,
@@ -52,7 +52,7 @@ fn write_rows(
     requires fields { FieldsInRange p.now }
     requires small_size { length small.now ≡ p.now.lwe_dim }
     requires large_size { length large.now ≡ large_dim p.now }
-    requires room { length room.old ≡ 3 * p.now.poly_size }
+    requires room { length room.old ≡ 4 * p.now.poly_size }
     requires size { length out.old ≡ boot_row_count p.now * glwe_size p.now }
     ensures { out.new ≡ boot_key_words p.now small.now large.now mask_seed.now noise_seed.now }
 {
@@ -64,7 +64,7 @@ fn write_rows(
     }
 }
 
-/// Writes the row of a number. There is room for three polynomials: what the row hides, and what encrypts
+/// Writes the row of a number. There is room for four polynomials: what the row hides, and what encrypts
 /// it.
 fn write_row(
     p: &Params,
@@ -80,7 +80,7 @@ fn write_row(
     requires small_size { length small.now ≡ p.now.lwe_dim }
     requires large_size { length large.now ≡ large_dim p.now }
     requires place { row < boot_row_count p.now }
-    requires room { length room.old ≡ 3 * p.now.poly_size }
+    requires room { length room.old ≡ 4 * p.now.poly_size }
     requires size { length out.old ≡ glwe_size p.now }
     ensures { out.new ≡ numbered_row p.now small.now large.now mask_seed.now noise_seed.now row }
 {

@@ -32,6 +32,20 @@ fn a_made_key_is_read_again(rt: HostRuntime) -> Result<(), Fail> {
 }
 
 #[test]
+fn a_made_key_is_made_again_of_its_bodies(rt: HostRuntime) -> Result<(), Fail> {
+    let Some(p) = named("rx-test") else {
+        panic!(rt; "a set of that name");
+    };
+    let key = ServerKey::make(rt.alloc(), &p, &[7; 32], &[8; 32])?;
+    let bodies = key.bodies(rt.alloc())?;
+    assert_eq!(rt; bodies.len(), 9_728);
+    let again = ServerKey::of_bodies(rt.alloc(), &key.params, &[8; 32], &bodies)?;
+    assert_eq!(rt; again.boot.words(), key.boot.words());
+    assert_eq!(rt; again.switch.words(), key.switch.words());
+    Ok(())
+}
+
+#[test]
 fn a_number_is_looked_up(rt: HostRuntime) -> Result<(), Fail> {
     let Some(p) = named("rx-test") else {
         panic!(rt; "a set of that name");

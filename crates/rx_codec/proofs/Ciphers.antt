@@ -11,13 +11,14 @@ use Rattle.std.proofs.lemmas.List.{drop_all, take_all}
 use Rattle.std.proofs.lemmas.List.Folds.{list_any-append}
 use Rattle.rx_text.specs.Names.{is_name}
 use Rattle.rx_params.specs.declared.params.Params.{Params}
+use Rattle.rx_params.specs.Derived.{large_dim}
 use Rattle.rx_net.specs.Legal.{InTurn}
 use Rattle.rx_codec.specs.declared.cipher.Item.{Item}
 use Rattle.rx_codec.specs.declared.cipher.Cipher.{Cipher}
 use Rattle.rx_codec.specs.declared.fault.CodecFault.{CodecFault}
 use Rattle.rx_codec.specs.Reading.{◌>>=◌, Gives, number_at, in_range, magic_at, ends_at}
 use Rattle.rx_codec.specs.ParamsFields.{params_bytes, params_at}
-use Rattle.rx_codec.specs.CipherFile.{has_item, item_bytes, cipher_head, cipher_bytes, IsItem, ItemsOnce, IsWritableItem, IsWritable, IsCipher, CipherFile, CipherRead, item_at, items_at, cipher_from}
+use Rattle.rx_codec.specs.CipherFile.{has_item, item_bytes, cipher_head, cipher_bytes, IsItem, IsSizedItem, ItemsOnce, IsWritableItem, IsWritable, IsCipher, CipherFile, item_at, items_at, cipher_from}
 use Rattle.rx_codec.proofs.Fields.{IsBytes, Stands, Stands-then, Stands-first, Stands-second, Stands-whole, whole-Stands, bind_ok, wide32, number_takes, number_again, in_range_takes, magic_takes, magic_again, ends_takes, ends_again}
 use Rattle.rx_codec.proofs.Params.{params_takes, params_again}
 use Rattle.rx_codec.proofs.Manys.{many_takes, many_again, each_of_turn}
@@ -30,7 +31,7 @@ pub eq_symm : (a b : List ℕ) → bytes_eq a b ≡ bytes_eq b a
 eq_symm a b = same_from_decides (bytes_eq a b) (bytes_eq b a) (bytes_eq-Decides a b) (Decides-like (bytes_eq b a) sym sym (bytes_eq-Decides b a))
 
 -- no item of the list has a name of an earlier one
-abbrev AreNew : List Item → List Item → Type 0
+abbrev pub AreNew : List Item → List Item → Type 0
 AreNew before items = AllByRecursion (λ i. has_item i.name before ≡ false) items
 
 new_one : (before : List Item) (f : Item) (name : List ℕ) → has_item name (before ++ f ∷ []) ≡ false → (has_item name before ≡ false) × (bytes_eq f.name name ≡ false)
@@ -54,23 +55,23 @@ still_new before f (i ∷ items) e h =
     let none : has_item i.name before ≡ false = h.0 in
     (list_any-append (λ (j : Item). bytes_eq j.name i.name) before (f ∷ []) ∙ rw (none, differs) refl, still_new before f items parts.1 h.1)
 
-none_before : (items : List Item) → AreNew [] items
+pub none_before : (items : List Item) → AreNew [] items
 none_before [] = tt
 none_before (i ∷ items) = (refl, none_before items)
 
 -- ---- lists of items
 
-items_once : (p : Params) (before items : List Item) → InTurn (ItemFits p) before items → AreNew before items × ItemsOnce items
-items_once p before [] h = (tt, tt)
-items_once p before (i ∷ items) h =
-    let rest = items_once p (before ++ i ∷ []) items h.1 in
+pub items_once : (size : ℕ) (p : Params) (before items : List Item) → InTurn (ItemFits size p) before items → AreNew before items × ItemsOnce items
+items_once size p before [] h = (tt, tt)
+items_once size p before (i ∷ items) h =
+    let rest = items_once size p (before ++ i ∷ []) items h.1 in
     let new = new_all before i items rest.0 in
     ((h.0.once, new.1), (new.0, rest.1))
 
-items_fit : (p : Params) (before items : List Item) → AllByRecursion (IsItem p) items → AreNew before items → ItemsOnce items → InTurn (ItemFits p) before items
-items_fit p before [] each new once = tt
-items_fit p before (i ∷ items) each new once =
-    (record { is = each.0; once = new.0 }, items_fit p (before ++ i ∷ []) items each.1 (still_new before i items once.0 new.1) once.1)
+pub items_fit : (size : ℕ) (p : Params) (before items : List Item) → AllByRecursion (IsSizedItem size p) items → AreNew before items → ItemsOnce items → InTurn (ItemFits size p) before items
+items_fit size p before [] each new once = tt
+items_fit size p before (i ∷ items) each new once =
+    (record { is = each.0; once = new.0 }, items_fit size p (before ++ i ∷ []) items each.1 (still_new before i items once.0 new.1) once.1)
 
 -- ---- the whole file
 
@@ -79,13 +80,13 @@ cipher_of params items = record { params = params; items = items }
 
 -- the rest of a file, after its parameters, and after the number of items
 abbrev after_count : Params → List ℕ → ℕ × ℕ → Result Cipher CodecFault
-after_count p file count = items_at p count.0 [] file count.1 >>= λ items. ends_at file items.1 (cipher_of p items.0)
+after_count p file count = items_at (large_dim p + 1) p count.0 [] file count.1 >>= λ items. ends_at file items.1 (cipher_of p items.0)
 
 abbrev after_params : List ℕ → Params × ℕ → Result Cipher CodecFault
 after_params file params = number_at w32 file params.1 >>= λ count. in_range (leb count.0 64) params.1 count >>= after_count params.0 file
 
 -- what is read is a ciphertext file
-pub cipher_spelled : (file : List ℕ) (c : Cipher) → IsBytes file → cipher_from file ≡ Ok c → CipherRead file c
+pub cipher_spelled : (file : List ℕ) (c : Cipher) → IsBytes file → cipher_from file ≡ Ok c → CipherFile file c
 unfolding cipher_from
 cipher_spelled file c fits e =
     let magic = bind_ok (magic_at (codes "RXE1") file) (λ after. params_at file after >>= after_params file) c e in
@@ -95,12 +96,12 @@ cipher_spelled file c fits e =
     let count = bind_ok (in_range (leb number.0.0 64) params.0.1 number.0) (after_count p file) c number.2 in
     let test = in_range_takes (leb number.0.0 64) params.0.1 number.0 count.0 count.1 in
     let rest : after_count p file number.0 ≡ Ok c = ap (after_count p file) test.1 ∙ count.2 in
-    let items = bind_ok (items_at p number.0.0 [] file number.0.1) (λ items. ends_at file items.1 (cipher_of p items.0)) c rest in
+    let items = bind_ok (items_at (large_dim p + 1) p number.0.0 [] file number.0.1) (λ items. ends_at file items.1 (cipher_of p items.0)) c rest in
     let end = ends_takes file items.0.1 (cipher_of p items.0.0) c items.2 in
     let t0 = magic_takes (codes "RXE1") file magic.0 magic.1 in
     let t1 = params_takes file magic.0 params.0 fits t0.within params.1 in
     let t2 = number_takes w32 (2 ^ 32) wide32 file params.0.1 number.0 fits number.1 in
-    let t3 = many_takes (item_at p) item_bytes (ItemFits p) (item_tells p t1.accepted) number.0.0 [] file number.0.1 items.0 fits t2.0.within items.1 in
+    let t3 = many_takes (item_at (large_dim p + 1) p) item_bytes (ItemFits (large_dim p + 1) p) (item_tells (large_dim p + 1) p t1.accepted) number.0.0 [] file number.0.1 items.0 fits t2.0.within items.1 in
     let items-are : t3.more ≡ items.0.0 = sym t3.value in
     let size : length t3.more ≡ number.0.0 = t3.count-is in
     let e01 = Stands-then file 0 (codes "RXE1") magic.0 (params_bytes p) params.0.1 t0 t1.there in
@@ -113,18 +114,18 @@ cipher_spelled file c fits e =
       fits = record {
         accepted = t1.accepted;
         count = omega (arith, size, leb-true _ _ test.0);
-        items = each_of_turn (ItemFits p) (IsItem p) (λ before i h. h.is) [] t3.more t3.fits;
-        once = (items_once p [] t3.more t3.fits).1;
+        items = each_of_turn (ItemFits (large_dim p + 1) p) (IsItem p) (λ before i h. h.is) [] t3.more t3.fits;
+        once = (items_once (large_dim p + 1) p [] t3.more t3.fits).1;
       };
       spelled = whole;
     })
 
-pub cipher_found : (file : List ℕ) (result : Result Cipher CodecFault) → IsBytes file → Gives (λ c. c) result (cipher_from file) → IfOk result (λ c. CipherRead file c)
+pub cipher_found : (file : List ℕ) (result : Result Cipher CodecFault) → IsBytes file → Gives (λ c. c) result (cipher_from file) → IfOk result (λ c. CipherFile file c)
 cipher_found file (Ok c) fits exact = cipher_spelled file c fits exact
 cipher_found file (Err fault) fits exact = tt
 
 -- a ciphertext file is read
-pub cipher_again : (file : List ℕ) (c : Cipher) → CipherRead file c → cipher_from file ≡ Ok c
+pub cipher_again : (file : List ℕ) (c : Cipher) → CipherFile file c → cipher_from file ≡ Ok c
 unfolding cipher_from
 cipher_again file c h =
     let magic = codes "RXE1" in
@@ -145,11 +146,11 @@ cipher_again file c h =
     (number_again w32 (2 ^ 32) wide32 file _ (length c.items) _ s2 (omega (arith, h.fits.count)))
     ∙ ap (λ (b : Bool). in_range b (0 + length (magic ++ params)) (length c.items, 0 + length (magic ++ params ++ count)) >>= after_count c.params file) few
     ∙ ap (λ (r : Result (List Item × ℕ) CodecFault). r >>= λ is. ends_at file is.1 (cipher_of c.params is.0))
-    (many_again (item_at c.params) item_bytes (ItemFits c.params) (item_tells c.params h.fits.accepted) c.items [] file _ (length file)
-    (items_fit c.params [] c.items h.fits.items (none_before c.items) h.fits.once) s3)
+    (many_again (item_at (large_dim c.params + 1) c.params) item_bytes (ItemFits (large_dim c.params + 1) c.params) (item_tells (large_dim c.params + 1) c.params h.fits.accepted) c.items [] file _ (length file)
+    (items_fit (large_dim c.params + 1) c.params [] c.items h.fits.items (none_before c.items) h.fits.once) s3)
     ∙ ends_again file (length file) (cipher_of c.params c.items) refl
 
-pub cipher_only : (file : List ℕ) (result : Result Cipher CodecFault) (c : Cipher) → Gives (λ d. d) result (cipher_from file) → CipherRead file c → Gives (λ d. d) result (Ok c)
+pub cipher_only : (file : List ℕ) (result : Result Cipher CodecFault) (c : Cipher) → Gives (λ d. d) result (cipher_from file) → CipherFile file c → Gives (λ d. d) result (Ok c)
 cipher_only file result c exact h = subst (Gives (λ d. d) result) (cipher_again file c h) exact
 
 -- ---- what is written

@@ -4,7 +4,7 @@ use Rattle.std.specs.Prelude.{codes, true, false}
 use Rattle.std.specs.Int.{w8, w16}
 use Rattle.std.specs.List.{range_with_len}
 use Rattle.rx_params.specs.declared.kind.Kind.TheVariants.{Int, Bit}
-use Rattle.rx_params.specs.Derived.{large_dim, key_words, rest_of, step_of, boot_of, base_of, switch_of, round_of, left_of}
+use Rattle.rx_params.specs.Derived.{key_words, rest_of, step_of, boot_of, base_of, switch_of, round_of, left_of}
 use Rattle.rx_params.specs.Acceptance.{refusal_of}
 use Rattle.rx_params.specs.Sets.{set_of, rx_test}
 use Rattle.rx_net.specs.declared.net.Job.{Job}
@@ -65,13 +65,13 @@ block = record { words = 5 ∷ 6 ∷ []; degree = 3; noise = 1 }
 item_spelled : item_bytes (record { name = codes "a"; kind = Int; bits = 2; blocks = block ∷ [] }) ≡ 1 ∷ 97 ∷ 0 ∷ 2 ∷ 3 ∷ 1 ∷ 5 ∷ replicate 7 0 ++ 6 ∷ replicate 7 0
 item_spelled = refl
 
-item_read : item_at (set_of 2 1 1 1 1 1 1 1 0 0) [] (1 ∷ 97 ∷ 0 ∷ 2 ∷ 3 ∷ 1 ∷ 5 ∷ replicate 7 0 ++ 6 ∷ replicate 7 0) 0 ≡ Ok (record { name = codes "a"; kind = Int; bits = 2; blocks = block ∷ [] }, 22)
-unfolding large_dim name_size_at name_at form_at words_at block_at item_at
+item_read : item_at 2 (set_of 2 1 1 1 1 1 1 1 0 0) [] (1 ∷ 97 ∷ 0 ∷ 2 ∷ 3 ∷ 1 ∷ 5 ∷ replicate 7 0 ++ 6 ∷ replicate 7 0) 0 ≡ Ok (record { name = codes "a"; kind = Int; bits = 2; blocks = block ∷ [] }, 22)
+unfolding name_size_at name_at form_at words_at block_at item_at
 item_read = refl
 
 -- a degree, and then a noise tag, out of its range
-block_faults : (block_at (set_of 2 1 1 1 1 1 1 1 0 0) Bit (2 ∷ 0 ∷ []) 0 ≡ Err (Field 0)) × (block_at (set_of 2 1 1 1 1 1 1 1 0 0) Int (3 ∷ 6 ∷ []) 0 ≡ Err (Field 1)) × (block_at (set_of 2 1 1 1 1 1 1 1 0 0) Int (3 ∷ 5 ∷ []) 0 ≡ Err (Short 18 2))
-unfolding large_dim words_at block_at
+block_faults : (block_at 2 (set_of 2 1 1 1 1 1 1 1 0 0) Bit (2 ∷ 0 ∷ []) 0 ≡ Err (Field 0)) × (block_at 2 (set_of 2 1 1 1 1 1 1 1 0 0) Int (3 ∷ 6 ∷ []) 0 ≡ Err (Field 1)) × (block_at 2 (set_of 2 1 1 1 1 1 1 1 0 0) Int (3 ∷ 5 ∷ []) 0 ≡ Err (Short 18 2))
+unfolding words_at block_at
 block_faults = (refl, refl, refl)
 
 -- ---- the file of no items

@@ -17,7 +17,7 @@ use Rattle.rx_codec.specs.declared.fault.CodecFault.{CodecFault}
 use Rattle.rx_codec.specs.Reading.{◌>>=◌, Gives, magic_at, ends_at}
 use Rattle.rx_codec.specs.ParamsFields.{params_bytes, params_at}
 use Rattle.rx_codec.specs.WordFields.{word_bytes, words_in, words_at}
-use Rattle.rx_codec.specs.ServerFile.{ServerFile, ServerRead, AreWords64, key_of, server_bytes, server_from}
+use Rattle.rx_codec.specs.ServerFile.{ServerFile, AreWords64, key_of, server_bytes, server_from}
 use Rattle.rx_codec.proofs.Fields.{IsBytes, Stands, Stands-then, Stands-first, Stands-second, Stands-whole, whole-Stands, bind_ok, magic_takes, magic_again, ends_takes, ends_again}
 use Rattle.rx_codec.proofs.Params.{params_takes, params_again}
 use Rattle.rx_codec.proofs.Words.{word_of, words_takes, words_again}
@@ -97,16 +97,16 @@ words_in-count m n bytes xs e h = ap length e ∙ words_in-length m bytes ∙ h
 
 -- ---- the two lists as one
 
-words64-take : (n : ℕ) (words : List ℕ) → AreWords64 words → AreWords64 (take n words)
+pub words64-take : (n : ℕ) (words : List ℕ) → AreWords64 words → AreWords64 (take n words)
 words64-take n words h i p =
     let q : i < n = omega (arith, p, length-take n words) in
     let r : i < length words = omega (arith, p, length-take n words) in
     rw (get_or-take n words i 0 q) (h i r)
 
-words64-drop : (n : ℕ) (words : List ℕ) → AreWords64 words → AreWords64 (drop n words)
+pub words64-drop : (n : ℕ) (words : List ℕ) → AreWords64 words → AreWords64 (drop n words)
 words64-drop n words h i p = rw (get_or-drop n words i 0) (h (n + i) (omega (arith, p, length-drop n words)))
 
-words64-append : (xs ys : List ℕ) → AreWords64 xs → AreWords64 ys → AreWords64 (xs ++ ys)
+pub words64-append : (xs ys : List ℕ) → AreWords64 xs → AreWords64 ys → AreWords64 (xs ++ ys)
 words64-append xs ys h k i p =
     elim (cases_lt i (length xs)) [
       | inl q ↦ rw (get_or_append_left xs ys 0 i q) (h i q)
@@ -124,7 +124,7 @@ spelled_whole p all =
     ap (λ (ws : List ℕ). codes "RXS1" ++ params_bytes p ++ word_bytes ws) (sym whole)
 
 -- what is read is a server file
-pub server_spelled : (file : List ℕ) (k : ServerWords) → IsBytes file → server_from file ≡ Ok k → ServerRead file k
+pub server_spelled : (file : List ℕ) (k : ServerWords) → IsBytes file → server_from file ≡ Ok k → ServerFile file k
 unfolding server_from
 server_spelled file k fits e =
     let magic = bind_ok (magic_at (codes "RXS1") file) (λ after. params_at file after >>= λ params. words_at (key_words params.0) file params.1 >>= λ words. ends_at file words.1 (key_of params.0 words.0)) k e in
@@ -151,12 +151,12 @@ server_spelled file k fits e =
           ∙ spelled_whole p all;
     })
 
-pub server_found : (file : List ℕ) (result : Result ServerWords CodecFault) → IsBytes file → Gives (λ k. k) result (server_from file) → IfOk result (λ k. ServerRead file k)
+pub server_found : (file : List ℕ) (result : Result ServerWords CodecFault) → IsBytes file → Gives (λ k. k) result (server_from file) → IfOk result (λ k. ServerFile file k)
 server_found file (Ok k) fits exact = server_spelled file k fits exact
 server_found file (Err fault) fits exact = tt
 
 -- a server file is read
-pub server_again : (file : List ℕ) (k : ServerWords) → ServerRead file k → server_from file ≡ Ok k
+pub server_again : (file : List ℕ) (k : ServerWords) → ServerFile file k → server_from file ≡ Ok k
 unfolding server_from
 server_again file k h =
     let p : Params = k.params in
@@ -181,7 +181,7 @@ server_again file k h =
     done : ServerWords → Result ServerWords CodecFault
     done x = Ok x
 
-pub server_only : (file : List ℕ) (result : Result ServerWords CodecFault) (k : ServerWords) → Gives (λ k. k) result (server_from file) → ServerRead file k →
+pub server_only : (file : List ℕ) (result : Result ServerWords CodecFault) (k : ServerWords) → Gives (λ k. k) result (server_from file) → ServerFile file k →
     Gives (λ k. k) result (Ok k)
 server_only file result k exact h = subst (Gives (λ k. k) result) (server_again file k h) exact
 

@@ -63,7 +63,7 @@ words_takes count file at x fits e =
     subst (λ (y : List ℕ × ℕ). Stands file at (word_bytes y.0) y.1 × (length y.0 ≡ count) × EachIndex y.0 (λ i. slice_index y.0 i < 2 ^ 64)) (ok_is made x a.2)
     (rw spelled t.0, len, below)
 
-length-word_bytes : (words : List ℕ) → length (word_bytes words) ≡ 8 * length words
+pub length-word_bytes : (words : List ℕ) → length (word_bytes words) ≡ 8 * length words
 length-word_bytes [] = refl
 length-word_bytes (w ∷ words) =
     ap length (flat_map-cons (to_le_bytes w64) w words) ∙ length-append (to_le_bytes w64 w) (word_bytes words) ∙ omega (arith, length-word_bytes words)

@@ -40,12 +40,18 @@ abbrev pub cipher_bytes : Cipher → List ℕ
 cipher_bytes c = cipher_head c.params (length c.items) ++ flat_map item_bytes c.items
 
 -- ---- what has a spelling
-pub record IsBlock (p : Params) (kind : Kind) (b : Block) : Type 0 where
+
+-- a block of a set, of so many words
+pub record IsSizedBlock (many : ℕ) (p : Params) (kind : Kind) (b : Block) : Type 0 where
   pub degree : b.degree ≤ greatest kind p.message_bits
   pub noise_low : 1 ≤ b.noise
   pub noise_high : b.noise ≤ noise_limit p.message_bits
-  pub size : length b.words ≡ large_dim p + 1
+  pub size : length b.words ≡ many
   pub words : EachIndex b.words (λ i. slice_index b.words i < 2 ^ 64)
+
+-- a block with all its mask words and its body
+abbrev pub IsBlock : Params → Kind → Block → Type 0
+IsBlock p kind b = IsSizedBlock (large_dim p + 1) p kind b
 
 -- an item, whatever text its name is
 pub record IsWritableItem (p : Params) (i : Item) : Type 0 where
@@ -53,11 +59,15 @@ pub record IsWritableItem (p : Params) (i : Item) : Type 0 where
   pub count : length i.blocks ≡ block_count i.kind p.message_bits i.bits
   pub blocks : AllByRecursion (IsBlock p i.kind) i.blocks
 
-pub record IsItem (p : Params) (i : Item) : Type 0 where
+-- an item of a set, whose blocks have so many words
+pub record IsSizedItem (many : ℕ) (p : Params) (i : Item) : Type 0 where
   pub name : IsTrue (is_name i.name)
   pub form : IsTrue (is_form p.message_bits i.kind i.bits)
   pub count : length i.blocks ≡ block_count i.kind p.message_bits i.bits
-  pub blocks : AllByRecursion (IsBlock p i.kind) i.blocks
+  pub blocks : AllByRecursion (IsSizedBlock many p i.kind) i.blocks
+
+abbrev pub IsItem : Params → Item → Type 0
+IsItem p i = IsSizedItem (large_dim p + 1) p i
 
 -- no name stands twice
 abbrev pub ItemsOnce : List Item → Type 0
@@ -86,34 +96,30 @@ pub record CipherFile (bytes : List ℕ) (c : Cipher) : Type 0 where
   pub fits : IsCipher c
   pub spelled : bytes ≡ cipher_bytes c
 
--- The bytes read as the cipher: they are its file. Decoders speak of this relation, and encoders of the one above.
-abbrev pub CipherRead : List ℕ → Cipher → Type 0
-CipherRead bytes c = CipherFile bytes c
-
--- ---- reading, with the first fault
-unfoldable pub block_at : Params → Kind → List ℕ → ℕ → Result (Block × ℕ) CodecFault
-block_at p kind file at = do
+-- ---- reading, with the first fault, of blocks of so many words
+unfoldable pub block_at : ℕ → Params → Kind → List ℕ → ℕ → Result (Block × ℕ) CodecFault
+block_at size p kind file at = do
   degree ← number_at w8 file at
   degree ← in_range (nat_le degree.0 (greatest kind p.message_bits)) at degree
   noise ← number_at w8 file degree.1
   noise ← in_range (nat_le 1 noise.0 && nat_le noise.0 (noise_limit p.message_bits)) degree.1 noise
-  words ← words_at (large_dim p + 1) file noise.1
+  words ← words_at size file noise.1
   Ok (record { words = words.0; degree = degree.0; noise = noise.0 }, words.1)
 
 -- so many blocks, after those before
-abbrev pub blocks_at : Params → Kind → ℕ → List Block → List ℕ → ℕ → Result (List Block × ℕ) CodecFault
-blocks_at p kind count before file at = many_at (λ before. block_at p kind) count before file at
+abbrev pub blocks_at : ℕ → Params → Kind → ℕ → List Block → List ℕ → ℕ → Result (List Block × ℕ) CodecFault
+blocks_at size p kind count before file at = many_at (λ before. block_at size p kind) count before file at
 
-unfoldable pub item_at : Params → List Item → List ℕ → ℕ → Result (Item × ℕ) CodecFault
-item_at p before file at = do
+unfoldable pub item_at : ℕ → Params → List Item → List ℕ → ℕ → Result (Item × ℕ) CodecFault
+item_at size p before file at = do
   name ← name_at (λ name. has_item name before) file at
   form ← form_at p.message_bits file name.1
-  blocks ← blocks_at p form.0.0 (block_count form.0.0 p.message_bits form.0.1) [] file form.1
+  blocks ← blocks_at size p form.0.0 (block_count form.0.0 p.message_bits form.0.1) [] file form.1
   Ok (record { name = name.0; kind = form.0.0; bits = form.0.1; blocks = blocks.0 }, blocks.1)
 
 -- so many items, after those before
-abbrev pub items_at : Params → ℕ → List Item → List ℕ → ℕ → Result (List Item × ℕ) CodecFault
-items_at p count before file at = many_at (item_at p) count before file at
+abbrev pub items_at : ℕ → Params → ℕ → List Item → List ℕ → ℕ → Result (List Item × ℕ) CodecFault
+items_at size p count before file at = many_at (item_at size p) count before file at
 
 -- the cipher that a file spells, or its first fault
 unfoldable pub cipher_from : List ℕ → Result Cipher CodecFault
@@ -122,5 +128,5 @@ cipher_from file = do
   params ← params_at file after
   count ← number_at w32 file params.1
   count ← in_range (nat_le count.0 most_items) params.1 count
-  items ← items_at params.0 count.0 [] file count.1
+  items ← items_at (large_dim params.0 + 1) params.0 count.0 [] file count.1
   ends_at file items.1 (record { params = params.0; items = items.0 })

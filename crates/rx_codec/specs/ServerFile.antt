@@ -32,10 +32,6 @@ pub record ServerFile (bytes : List ℕ) (k : ServerWords) : Type 0 where
   pub fits : IsServer k
   pub spelled : bytes ≡ server_bytes k
 
--- The bytes read as the key: they are its file. Decoders speak of this relation, and encoders of the one above.
-abbrev pub ServerRead : List ℕ → ServerWords → Type 0
-ServerRead bytes k = ServerFile bytes k
-
 -- the key of a set with these words, those of the bootstrapping rows first
 abbrev pub key_of : Params → List ℕ → ServerWords
 key_of p words = record { params = p; boot = take (boot_size p) words; switch = drop (boot_size p) words }

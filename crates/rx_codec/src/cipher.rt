@@ -1,10 +1,10 @@
 //! The ciphertext file: named numbers under encryption.
-ghost use Rattle.std.specs.Prelude.{◌≡◌, ◌≤◌, ◌++◌, IsTrue, IfOk, OnOk, Ok, []};
+ghost use Rattle.std.specs.Prelude.{◌≡◌, ◌≤◌, ◌<◌, ◌^◌, ◌++◌, IsTrue, IfOk, OnOk, Ok, []};
 ghost use Rattle.rx_text.specs.Names.{is_name};
 ghost use Rattle.rx_params.specs.Acceptance.{Accepts};
 ghost use Rattle.rx_codec.specs.declared.cipher.Cipher.{Cipher};
 ghost use Rattle.rx_codec.specs.Reading.{GivesExactlyAt, GivesAt, Gives};
-ghost use Rattle.rx_codec.specs.CipherFile.{CipherFile, CipherRead, IsWritable, item_bytes, cipher_from, items_at, item_at, blocks_at, block_at, has_item as item_has_name};
+ghost use Rattle.rx_codec.specs.CipherFile.{CipherFile, IsWritable, item_bytes, cipher_from, items_at, item_at, blocks_at, block_at, has_item as item_has_name};
 ghost use Rattle.rx_codec.specs.NamedFields.{name_at};
 
 use crate::CodecFault;
@@ -20,7 +20,7 @@ use rx_torus::Words;
 use std::alloc::{AllocError, Global};
 
 /// The most items of a file.
-const MOST_ITEMS: u32 = 64;
+pub const MOST_ITEMS: u32 = 64;
 
 /// A named number under encryption.
 #[derive(Debug, Drop)]
@@ -47,8 +47,8 @@ pub struct Cipher {
 /// The cipher that a file spells, or its first fault.
 pub fn decode_cipher(alloc: Global, bytes: &[u8]) -> Result<Cipher, CodecFault>
     ensures exact { Gives (λ c. c) result (cipher_from bytes.now) }
-    ensures found { IfOk result (λ c. CipherRead bytes.now c) }
-    ensures only { (c : Cipher) → CipherRead bytes.now c → Gives (λ c. c) result (Ok c) }
+    ensures found { IfOk result (λ c. CipherFile bytes.now c) }
+    ensures only { (c : Cipher) → CipherFile bytes.now c → Gives (λ c. c) result (Ok c) }
 {
     read_cipher(alloc, bytes)
 }
@@ -62,7 +62,7 @@ fn read_cipher(alloc: Global, bytes: &[u8]) -> Result<Cipher, CodecFault>
     let at = reader.at();
     let count = reader.u32()?;
     in_range(count <= MOST_ITEMS, at)?;
-    let items = read_items(alloc, &mut reader, &params, count)?;
+    let items = read_items(alloc, &mut reader, &params, block_words(&params), count)?;
     reader.end()?;
     Ok(Cipher {
         params,
@@ -70,20 +70,23 @@ fn read_cipher(alloc: Global, bytes: &[u8]) -> Result<Cipher, CodecFault>
     })
 }
 
-fn read_items(
+/// So many items of a set, each of whose blocks has so many words, or the first fault of theirs.
+pub fn read_items(
     alloc: Global,
     reader: &mut Reader,
     params: &Params,
+    size: usize,
     count: u32,
 ) -> Result<Vec<Item>, CodecFault>
-    requires { Accepts params.now }
+    requires accepted { Accepts params.now }
+    requires few { size < 2 ^ 24 }
     ensures value { GivesAt (λ items. items.items) reader.new.at result
-        (items_at params.now count [] reader.old.file reader.old.at) }
+        (items_at size params.now count [] reader.old.file reader.old.at) }
     ensures file { reader.new.file ≡ reader.old.file }
 {
     let mut items = Vec::new(alloc);
     for _ in 0..count {
-        let item = read_item(alloc, reader, params, items.as_slice())?;
+        let item = read_item(alloc, reader, params, size, items.as_slice())?;
         items.push(item)?;
     }
     Ok(items)
@@ -94,17 +97,19 @@ fn read_item(
     alloc: Global,
     reader: &mut Reader,
     params: &Params,
+    size: usize,
     before: &[Item],
 ) -> Result<Item, CodecFault>
-    requires { Accepts params.now }
+    requires accepted { Accepts params.now }
+    requires few { size < 2 ^ 24 }
     ensures value { GivesAt (λ item. item) reader.new.at result
-        (item_at params.now before.now reader.old.file reader.old.at) }
+        (item_at size params.now before.now reader.old.file reader.old.at) }
     ensures file { reader.new.file ≡ reader.old.file }
 {
     let name = read_name(reader, before)?;
     let (kind, bits) = read_form(reader, params.message_bits)?;
     let count = kind.block_count(params.message_bits, bits);
-    let blocks = read_blocks(alloc, reader, params, kind, count)?;
+    let blocks = read_blocks(alloc, reader, params, size, kind, count)?;
     Ok(Item {
         name,
         kind,
@@ -136,17 +141,19 @@ fn read_blocks(
     alloc: Global,
     reader: &mut Reader,
     params: &Params,
+    size: usize,
     kind: Kind,
     count: u32,
 ) -> Result<Vec<Block>, CodecFault>
-    requires { Accepts params.now }
+    requires accepted { Accepts params.now }
+    requires few { size < 2 ^ 24 }
     ensures value { GivesAt (λ blocks. blocks.items) reader.new.at result
-        (blocks_at params.now kind count [] reader.old.file reader.old.at) }
+        (blocks_at size params.now kind count [] reader.old.file reader.old.at) }
     ensures file { reader.new.file ≡ reader.old.file }
 {
     let mut blocks = Vec::new(alloc);
     for _ in 0..count {
-        let block = read_block(alloc, reader, params, kind)?;
+        let block = read_block(alloc, reader, params, size, kind)?;
         blocks.push(block)?;
     }
     Ok(blocks)
@@ -157,11 +164,13 @@ fn read_block(
     alloc: Global,
     reader: &mut Reader,
     params: &Params,
+    size: usize,
     kind: Kind,
 ) -> Result<Block, CodecFault>
-    requires { Accepts params.now }
+    requires accepted { Accepts params.now }
+    requires few { size < 2 ^ 24 }
     ensures value { GivesAt (λ block. block) reader.new.at result
-        (block_at params.now kind reader.old.file reader.old.at) }
+        (block_at size params.now kind reader.old.file reader.old.at) }
     ensures file { reader.new.file ≡ reader.old.file }
 {
     let at = reader.at();
@@ -170,7 +179,7 @@ fn read_block(
     let at = reader.at();
     let noise = reader.u8()?;
     in_range((1..=noise_limit(params.message_bits)).contains(&noise), at)?;
-    let words = reader.words(alloc, block_words(params))?;
+    let words = reader.words(alloc, size)?;
     Ok(Block {
         words: Words::from_vec(words),
         degree,

@@ -56,6 +56,13 @@ impl CipherWriter {
         Ok(CipherWriter { bytes })
     }
 
+    /// A file that begins with these bytes, without a copy.
+    pub fn after(bytes: Vec<u8>) -> CipherWriter
+        ensures { result ≡ bytes.items }
+    {
+        CipherWriter { bytes }
+    }
+
     /// Adds the head of an item: its name and its form. Its blocks come next.
     pub fn item(&mut self, name: &Name, kind: Kind, bits: u32) -> Result<(), AllocError>
         requires bits { bits ≤ 64 }

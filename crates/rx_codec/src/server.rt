@@ -5,7 +5,7 @@ ghost use Rattle.rx_params.specs.Derived.{key_words as key_words_of};
 ghost use Rattle.rx_boot.specs.ServerKeys.{ServerWords};
 ghost use Rattle.rx_codec.specs.Reading.{Gives, GivesExactly, IsFaultOf};
 ghost use Rattle.rx_codec.specs.WordFields.{words_in};
-ghost use Rattle.rx_codec.specs.ServerFile.{ServerFile, ServerRead, server_from, key_of};
+ghost use Rattle.rx_codec.specs.ServerFile.{ServerFile, server_from, key_of};
 
 use crate::CodecFault;
 use crate::params_fields::{read_params, write_params};
@@ -25,8 +25,8 @@ const HEAD_SIZE: usize = 44;
 pub fn decode_server(alloc: Global, bytes: &[u8]) -> Result<ServerKey, CodecFault>
     ensures exact { Gives (λ k. k) result (server_from bytes.now) }
     ensures fault { IfErr result (IsFaultOf (server_from bytes.now)) }
-    ensures found { IfOk result (λ k. ServerRead bytes.now k) }
-    ensures only { (k : ServerWords) → ServerRead bytes.now k → Gives (λ k. k) result (Ok k) }
+    ensures found { IfOk result (λ k. ServerFile bytes.now k) }
+    ensures only { (k : ServerWords) → ServerFile bytes.now k → Gives (λ k. k) result (Ok k) }
 {
     read_server(alloc, bytes)
 }

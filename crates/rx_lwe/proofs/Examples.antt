@@ -8,6 +8,7 @@ use Rattle.rx_ring.specs.Switch.{switched, switched_by}
 use Rattle.rx_params.specs.Derived.{large_dim}
 use Rattle.rx_params.specs.Sets.{set_of, rx_test}
 use Rattle.rx_lwe.specs.Lwe.{phase_of}
+use Rattle.rx_lwe.specs.Seeded.{row_bodies}
 use Rattle.rx_lwe.specs.SwitchKeys.{SwitchRows, switch_rows, switched_words, switch_size, switch_key}
 
 -- the mask (2 ^ 63, 3) and the body 1 under the key bits 1 and 1
@@ -31,3 +32,7 @@ row_places = (refl, refl, refl, refl)
 switched_down : switched_words rows ((2 ^ 62) ∷ (2 ^ 63) ∷ 1000 ∷ []) ≡ 60 ∷ 1063 ∷ []
 unfolding large_dim switched switched_by digit rests sum_to word
 switched_down = refl
+
+-- two rows of a mask and a body, and of a mask and a body of two words
+bodies : (row_bodies 1 1 2 (1 ∷ 2 ∷ 3 ∷ 4 ∷ []) ≡ 2 ∷ 4 ∷ []) × (row_bodies 1 2 2 (1 ∷ 2 ∷ 3 ∷ 4 ∷ 5 ∷ 6 ∷ []) ≡ 2 ∷ 3 ∷ 5 ∷ 6 ∷ [])
+bodies = (refl, refl)

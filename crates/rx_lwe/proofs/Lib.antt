@@ -7,4 +7,6 @@ pub mod Rows
 pub mod Marks
 pub mod Made
 pub mod Switched
+pub mod SeededRows
+pub mod SeededSwitch
 mod Examples

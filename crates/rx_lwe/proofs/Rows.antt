@@ -18,7 +18,7 @@ range-more n =
 pub rows-more : (f : ℕ → List ℕ) (n : ℕ) → flat_map f (range_with_len 0 n) ++ f n ≡ flat_map f (range_with_len 0 (n + 1))
 rows-more f n = flat_map_more f [] (range_with_len 0 n) n ∙ ap (flat_map f) (sym (range-more n))
 
-rows-suc : (f : ℕ → List ℕ) (n : ℕ) → flat_map f (range_with_len 0 (suc n)) ≡ flat_map f (range_with_len 0 n) ++ f n
+pub rows-suc : (f : ℕ → List ℕ) (n : ℕ) → flat_map f (range_with_len 0 (suc n)) ≡ flat_map f (range_with_len 0 n) ++ f n
 rows-suc f n = ap (λ k. flat_map f (range_with_len 0 k)) (sym (add-one n)) ∙ sym (rows-more f n)
 
 -- a list that begins with the first rows, once the next one is written behind them

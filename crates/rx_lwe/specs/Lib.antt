@@ -1,3 +1,4 @@
 pub mod Secret
 pub mod Lwe
 pub mod SwitchKeys
+pub mod Seeded

@@ -9,6 +9,7 @@ mod made_rows;
 mod modulus;
 mod phases;
 mod scaled;
+mod seeded;
 mod switch;
 
 pub use encrypt::encrypt_into;
@@ -16,6 +17,7 @@ pub use key::SecretKey;
 pub use modulus::mod_switch;
 pub use phases::{decode, phase, unit};
 pub use scaled::add_scaled;
+pub use seeded::{draw_words, row_bodies};
 pub use switch::{SwitchKey, switch_into};
 
 #[cfg(test)]

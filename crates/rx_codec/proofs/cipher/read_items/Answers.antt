@@ -10,9 +10,9 @@ returns-in_err-item-clause-value c =
     let params = c.args.params.now in
     let file = c.loop.reader.file in
     let failed = rw c.as_slice.ensures.value at c.in_err-item.ensures.value in
-    rw (p.1, p.2) (stops (λ n before at. items_at params n before file at) (λ before at. item_at params before file at) (λ n before at. refl)
+    rw (p.1, p.2) (stops (λ n before at. items_at c.args.size params n before file at) (λ before at. item_at c.args.size params before file at) (λ n before at. refl)
     c.in_err-item.field-0.0 c.args.count c.loop.counter c.loop.items.items c.loop.reader.at
-    (items_at params c.args.count [] c.args.reader.now.file c.args.reader.now.at)
+    (items_at c.args.size params c.args.count [] c.args.reader.now.file c.args.reader.now.at)
     c.loop-test.true failed c.loop.invariant.rest)
 
 pub loop-preserved : goal.loop-preserved
@@ -23,8 +23,8 @@ loop-preserved c =
     record {
       file = c.in_ok-item.ensures.file ∙ c.loop.invariant.file;
       rest = rw (c.in_ok-push.ensures.items, c.in_ok-item.ensures.file)
-          (goes_on (λ n before at. items_at params n before file at) (λ before at. item_at params before file at) (λ n before at. refl)
+          (goes_on (λ n before at. items_at c.args.size params n before file at) (λ before at. item_at c.args.size params before file at) (λ n before at. refl)
           c.args.count c.loop.counter c.loop.items.items c.loop.reader.at c.in_ok-item.item c.read_item.new.reader.at
-          (items_at params c.args.count [] c.args.reader.now.file c.args.reader.now.at)
+          (items_at c.args.size params c.args.count [] c.args.reader.now.file c.args.reader.now.at)
           c.loop-test.true read c.loop.invariant.rest);
     }

@@ -17,11 +17,9 @@ returns c = record {
   client_read = client_again;
   client_spelled = λ bytes client h. client_spelled bytes client (fits bytes h);
   server_read = server_again;
-  server_found = λ bytes key h. server_spelled bytes key (fits bytes h);
-  server_written = λ bytes key h. h;
+  server_spelled = λ bytes key h. server_spelled bytes key (fits bytes h);
   net_read = net_again c.net_laws.ensures;
   net_spelled = λ bytes net h. net_spelled c.net_laws.ensures bytes net (fits bytes h);
   cipher_read = cipher_again;
-  cipher_found = λ bytes cipher h. cipher_spelled bytes cipher (fits bytes h);
-  cipher_written = λ bytes cipher h. h;
+  cipher_spelled = λ bytes cipher h. cipher_spelled bytes cipher (fits bytes h);
 }

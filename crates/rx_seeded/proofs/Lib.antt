@@ -1,0 +1,9 @@
+pub mod Unlike
+pub mod Magics
+pub mod Filled
+pub mod WrongMasks
+pub mod SeededServers
+pub mod BodiesFiles
+pub mod SeededCiphers
+pub mod EitherVersion
+mod Examples

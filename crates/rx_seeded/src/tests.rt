@@ -1,0 +1,2 @@
+mod cipher;
+mod server;
