@@ -1,8 +1,9 @@
 -- The encryption of some lines: it has a spelling as a file, and each of its blocks keeps its digit.
-use Rattle.std.proofs.Common.{◌≡◌, ◌⊎◌, inl, inr, ℕ, zero, suc, get_or, ◌+◌, ◌-◌, ◌*◌, ◌/◌, ◌%◌, ◌^◌, ◌<◌, ◌≤◌, refl, sym, ◌∙◌, ap, arith, subst, Bool, true, false, ◌||◌, IsTrue, List, [], ◌∷◌, ◌++◌, map, length, Option, None, Some, if◌then◌else◌}
+use Rattle.std.proofs.Common.{◌≡◌, ◌⊎◌, inl, inr, ℕ, zero, suc, get_or, ◌+◌, ◌-◌, ◌*◌, ◌/◌, ◌%◌, ◌^◌, ◌<◌, ◌≤◌, refl, sym, ◌∙◌, ap, arith, subst, Bool, true, false, ◌||◌, IsTrue, List, [], ◌∷◌, ◌++◌, map, drop, length, Option, None, Some, if◌then◌else◌}
 use Rattle.std.specs.List.{flat_map, AllByRecursion, range_with_len}
 use Rattle.std.specs.Str.{bytes_eq}
 use Rattle.std.proofs.lemmas.Bool.Decides.{nat_tests}
+use Rattle.std.proofs.lemmas.List.{length-map}
 use Rattle.std.proofs.lemmas.List.FromFn.{length-map-range_with_len}
 use Rattle.rx_laws.specs.Decode.{unit}
 use Rattle.rx_laws.proofs.Words.{words_below-fit}
@@ -16,15 +17,18 @@ use Rattle.rx_params.specs.Acceptance.{Accepts, FieldsInRange}
 use Rattle.rx_params.specs.Derived.{large_dim}
 use Rattle.rx_params.specs.Kinds.{greatest, block_count, is_form, digit_at}
 use Rattle.rx_lwe.specs.Lwe.{encrypted}
+use Rattle.rx_lwe.specs.Seeded.{drawn_words}
 use Rattle.rx_lwe.proofs.Made.{encrypted-length}
+use Rattle.rx_lwe.proofs.SeededSwitch.{encrypted-split}
+use Rattle.rx_seeded.specs.SeededCipher.{short_block, short_item, full_block, full_blocks, full_items, redrawn_items, seeded_cipher_head, seeded_cipher_bytes}
 use Rattle.rx_block.specs.declared.block.Block.{Block}
 use Rattle.rx_block.specs.Fresh.{fresh}
 use Rattle.rx_block.proofs.FreshBlocks.{fresh-keeps}
 use Rattle.rx_circuit.specs.declared.values.ValueLine.{ValueLine}
 use Rattle.rx_circuit.specs.Values.{is_width, has_name, IsValueLine, NamesOnce, AreValues}
 use Rattle.rx_codec.specs.declared.cipher.Item.{Item}
-use Rattle.rx_codec.specs.CipherFile.{has_item, item_bytes, cipher_head, cipher_bytes, IsBlock, IsItem, ItemsOnce, IsCipher}
-use Rattle.rx_client.specs.Encrypt.{blocks_in, line_blocks, line_item, items_from, encrypted_values, is_filled, has_width, first_width, KeepsDigits, KeepsValues}
+use Rattle.rx_codec.specs.CipherFile.{has_item, item_bytes, IsBlock, IsItem, ItemsOnce, IsCipher}
+use Rattle.rx_client.specs.Encrypt.{blocks_in, line_block, line_blocks, line_item, items_from, encrypted_values, is_filled, has_width, first_width, KeepsDigits, KeepsValues}
 
 -- ---- one block
 
@@ -169,14 +173,84 @@ values_keep p key mask_seed noise_seed lines fields are = items_keep p key mask_
 
 -- the head of the file and all items behind it are the whole
 pub values_spelled : (p : Params) (key mask_seed noise_seed : List ℕ) (lines : List ValueLine) (head file : List ℕ) →
-    head ≡ cipher_head p (length lines) → file ≡ head ++ flat_map item_bytes (items_from p key mask_seed noise_seed 0 lines) →
-    file ≡ cipher_bytes (encrypted_values p key mask_seed noise_seed lines)
+    head ≡ seeded_cipher_head p mask_seed (length lines) →
+    file ≡ head ++ flat_map item_bytes (map (short_item p) (items_from p key mask_seed noise_seed 0 lines)) →
+    file ≡ seeded_cipher_bytes mask_seed (encrypted_values p key mask_seed noise_seed lines)
 unfolding encrypted_values
 values_spelled p key mask_seed noise_seed lines head file first whole =
     let items : List Item = items_from p key mask_seed noise_seed 0 lines in
+    let short : List Item = map (short_item p) items in
     whole
-    ∙ ap (λ text. text ++ flat_map item_bytes items) first
-    ∙ ap (λ count. cipher_head p count ++ flat_map item_bytes items) (sym (items_count p key mask_seed noise_seed 0 lines))
+    ∙ ap (λ text. text ++ flat_map item_bytes short) first
+    ∙ ap (λ count. seeded_cipher_head p mask_seed count ++ flat_map item_bytes short) (sym (items_count p key mask_seed noise_seed 0 lines))
+
+-- ---- the masks are those that the seed draws
+
+abbrev block_of : Block → List ℕ → Block
+block_of b words = record { words = words; degree = b.degree; noise = b.noise }
+
+fresh-drawn : (p : Params) (key mask_seed noise_seed : List ℕ) (number : ℕ) (kind : Kind) (x : ℕ) → length key ≡ large_dim p →
+    full_block p mask_seed number (short_block p (fresh p key mask_seed noise_seed number kind x))
+    ≡ fresh p key mask_seed noise_seed number kind x
+unfolding fresh
+fresh-drawn p key mask_seed noise_seed number kind x size =
+    let mask : Draws = stream_of mask_seed (stream_number BlockMask number) in
+    let noise : Draws = stream_of noise_seed (stream_number BlockNoise number) in
+    let message : ℕ = unit p.message_bits * x in
+    let words : List ℕ = encrypted key mask noise p.glwe_bound message in
+    let block : Block = record { words = words; degree = greatest kind p.message_bits; noise = 1 } in
+    ap (λ n. block_of block (drawn_words n mask ++ drop n words)) (sym size)
+    ∙ ap (block_of block) (sym (encrypted-split key mask noise p.glwe_bound message))
+
+blocks_drawn : (p : Params) (key mask_seed noise_seed : List ℕ) (number : ℕ) (v : ValueLine) (start count : ℕ) → length key ≡ large_dim p →
+    full_blocks p mask_seed (number + start)
+    (map (short_block p) (map (line_block p key mask_seed noise_seed number v) (range_with_len start count)))
+    ≡ map (line_block p key mask_seed noise_seed number v) (range_with_len start count)
+blocks_drawn p key mask_seed noise_seed number v start zero size = refl
+blocks_drawn p key mask_seed noise_seed number v start (suc count) size =
+    let f : ℕ → Block = line_block p key mask_seed noise_seed number v in
+    let later : List Block = map (short_block p) (map f (range_with_len (start + 1) count)) in
+    let next : number + start + 1 ≡ number + (start + 1) = omega arith in
+    ap (λ b. b ∷ full_blocks p mask_seed (number + start + 1) later)
+    (fresh-drawn p key mask_seed noise_seed (number + start) v.kind (digit_at p.message_bits v.value start) size)
+    ∙ ap (λ n. f start ∷ full_blocks p mask_seed n later) next
+    ∙ ap (λ bs. f start ∷ bs) (blocks_drawn p key mask_seed noise_seed number v (start + 1) count size)
+
+line_drawn : (p : Params) (key mask_seed noise_seed : List ℕ) (number : ℕ) (v : ValueLine) → length key ≡ large_dim p →
+    full_blocks p mask_seed number (map (short_block p) (line_blocks p key mask_seed noise_seed number v))
+    ≡ line_blocks p key mask_seed noise_seed number v
+line_drawn p key mask_seed noise_seed number v size =
+    let first : number ≡ number + 0 = omega arith in
+    ap (λ n. full_blocks p mask_seed n (map (short_block p) (line_blocks p key mask_seed noise_seed number v))) first
+    ∙ blocks_drawn p key mask_seed noise_seed number v 0 (blocks_in p v) size
+
+short-count : (p : Params) (key mask_seed noise_seed : List ℕ) (number : ℕ) (v : ValueLine) →
+    length (map (short_block p) (line_blocks p key mask_seed noise_seed number v)) ≡ blocks_in p v
+short-count p key mask_seed noise_seed number v =
+    length-map (line_blocks p key mask_seed noise_seed number v) (short_block p)
+    ∙ length-map-range_with_len (line_block p key mask_seed noise_seed number v) 0 (blocks_in p v)
+
+items_drawn : (p : Params) (key mask_seed noise_seed : List ℕ) (number : ℕ) (lines : List ValueLine) → length key ≡ large_dim p →
+    full_items p mask_seed number (map (short_item p) (items_from p key mask_seed noise_seed number lines))
+    ≡ items_from p key mask_seed noise_seed number lines
+items_drawn p key mask_seed noise_seed number [] size = refl
+items_drawn p key mask_seed noise_seed number (v ∷ lines) size =
+    let item : List Block → Item = λ bs. record { name = v.name; kind = v.kind; bits = v.bits; blocks = bs } in
+    let next : ℕ = number + blocks_in p v in
+    let later : ℕ → List Item = λ n. map (short_item p) (items_from p key mask_seed noise_seed n lines) in
+    ap (λ bs. item bs ∷ full_items p mask_seed
+    (number + length (map (short_block p) (line_blocks p key mask_seed noise_seed number v))) (later next))
+    (line_drawn p key mask_seed noise_seed number v size)
+    ∙ ap (λ k. item (line_blocks p key mask_seed noise_seed number v) ∷ full_items p mask_seed (number + k) (later next))
+    (short-count p key mask_seed noise_seed number v)
+    ∙ ap (λ is. item (line_blocks p key mask_seed noise_seed number v) ∷ is) (items_drawn p key mask_seed noise_seed next lines size)
+
+pub values_drawn : (p : Params) (key mask_seed noise_seed : List ℕ) (lines : List ValueLine) → length key ≡ large_dim p →
+    redrawn_items (encrypted_values p key mask_seed noise_seed lines).params mask_seed
+    (encrypted_values p key mask_seed noise_seed lines).items
+    ≡ (encrypted_values p key mask_seed noise_seed lines).items
+unfolding encrypted_values
+values_drawn p key mask_seed noise_seed lines size = items_drawn p key mask_seed noise_seed 0 lines size
 
 -- the items of the lines under the set are the encryption
 pub values_are : (p : Params) (key mask_seed noise_seed : List ℕ) (lines : List ValueLine) (items : List Item) →

@@ -3,18 +3,20 @@ ghost use Rattle.std.specs.Prelude.{◌≡◌, IfOk, None, length, map};
 ghost use Rattle.rx_params.specs.Acceptance.{Accepts, FieldsInRange};
 ghost use Rattle.rx_params.specs.Derived.{large_dim};
 ghost use Rattle.rx_circuit.specs.Values.{AreValues};
-ghost use Rattle.rx_codec.specs.CipherFile.{CipherFile, IsCipher, IsWritable};
+ghost use Rattle.rx_codec.specs.CipherFile.{IsCipher, IsWritable};
+ghost use Rattle.rx_seeded.specs.SeededCipher.{SeededCipher};
 ghost use Rattle.rx_codec.specs.Kept.{AreItemsKept};
 ghost use Rattle.rx_client.specs.Encrypt.{line_digits, encrypted_values, first_width, KeepsValues};
 
 use crate::fresh_items::Encryption;
 use rx_circuit::ValueLine;
-use rx_codec::{Cipher, CipherWriter, HEAD_SIZE, Items, item_size};
+use rx_codec::{Cipher, Items, item_size};
 use rx_lwe::SecretKey;
 use rx_params::Params;
+use rx_seeded::{SEEDED_HEAD_SIZE, seeded_writer};
 use std::alloc::{AllocError, Global};
 
-/// The ciphertext file of the lines of a value file under the large key of an accepted set; no line is of a wrong
+/// The seeded ciphertext file of the lines of a value file under the large key of an accepted set; no line is of a wrong
 /// width. Each line becomes an item of its fresh blocks, which are numbered through the whole file from 0. The two
 /// seeds serve one file. Each block stands in the file before the next is made.
 pub fn encrypt_values(
@@ -29,7 +31,7 @@ pub fn encrypt_values(
     requires key { length key.now ≡ large_dim p.now }
     requires values { AreValues lines.now }
     requires widths { first_width p.now.message_bits lines.now ≡ None }
-    ensures file { IfOk result (λ bytes. CipherFile bytes.items
+    ensures file { IfOk result (λ bytes. SeededCipher bytes.items mask_seed.now
         (encrypted_values p.now key.now mask_seed.now noise_seed.now lines.now)) }
     ensures keeps { IfOk result (λ _. KeepsValues p.now key.now
         (encrypted_values p.now key.now mask_seed.now noise_seed.now lines.now).items lines.now) }
@@ -44,8 +46,8 @@ pub fn encrypt_values(
         noise_seed,
     };
     let mut words = vec![in alloc; 0; key.bits().len() + 1]?;
-    let size = file_size(p, words.len(), lines);
-    let mut file = CipherWriter::new(alloc, p, lines.len() as u32, size)?;
+    let count = lines.len() as u32;
+    let mut file = seeded_writer(alloc, p, mask_seed, count, file_size(p, lines))?;
     encryption.write_items(&mut file, &mut words, lines)?;
     Ok(file.finish())
 }
@@ -84,14 +86,14 @@ pub fn encrypt_cipher(
     })
 }
 
-/// The bytes of the file of some lines, in blocks of so many words, as far as a size can be counted.
-fn file_size(p: &Params, words: usize, lines: &[ValueLine]) -> usize
+/// The bytes of the file of some lines, as far as a size can be counted.
+fn file_size(p: &Params, lines: &[ValueLine]) -> usize
     requires { FieldsInRange p.now }
 {
-    let mut size = HEAD_SIZE;
+    let mut size = SEEDED_HEAD_SIZE;
     for line in lines {
         let blocks = line.kind.block_count(p.message_bits, line.bits) as usize;
-        size = size.saturating_add(item_size(&line.name, blocks, words));
+        size = size.saturating_add(item_size(&line.name, blocks, 1));
     }
     size
 }

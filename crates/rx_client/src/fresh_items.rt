@@ -1,10 +1,12 @@
 //! The items of value lines: fresh blocks, as values or spelled into a file one after another.
-ghost use Rattle.std.specs.Prelude.{◌≡◌, ◌⊎◌, ◌+◌, ◌*◌, ◌^◌, ◌<◌, ◌++◌, IfOk, OnOk, length};
+ghost use Rattle.std.specs.Prelude.{◌≡◌, ◌⊎◌, ◌+◌, ◌*◌, ◌^◌, ◌<◌, ◌++◌, IfOk, OnOk, length, map};
 ghost use Rattle.std.specs.List.{flat_map};
 ghost use Rattle.rx_params.specs.Acceptance.{FieldsInRange};
+ghost use Rattle.rx_params.specs.Derived.{large_dim};
 ghost use Rattle.rx_params.specs.Kinds.{block_count, digit_at as digit_of};
 ghost use Rattle.rx_circuit.specs.Values.{AreValues, IsValueLine};
-ghost use Rattle.rx_codec.specs.CipherFile.{item_bytes};
+ghost use Rattle.rx_codec.specs.CipherFile.{block_bytes, item_bytes};
+ghost use Rattle.rx_seeded.specs.SeededCipher.{short_block, short_item};
 ghost use Rattle.rx_client.specs.Encrypt.{line_block as line_block_of, line_item, items_from};
 
 use rx_block::{Block, Tags, fresh_words_into};
@@ -112,7 +114,8 @@ impl<'a> Encryption<'a> {
         )
     }
 
-    /// Adds the items of some lines to a file. Each block is made in the lent words.
+    /// Adds the items of some lines to a seeded file, of each block its body alone. Each block is made in the lent
+    /// words.
     pub(crate) fn write_items(
         &self,
         file: &mut CipherWriter,
@@ -120,11 +123,12 @@ impl<'a> Encryption<'a> {
         lines: &[ValueLine],
     ) -> Result<(), AllocError>
         requires fields { FieldsInRange self.now.p.now }
+        requires key { length self.now.key.now ≡ large_dim self.now.p.now }
         requires values { AreValues lines.now }
         requires room { length words.old ≡ length self.now.key.now + 1 }
         ensures { OnOk result (file.new ≡ file.old ++ flat_map item_bytes
-            (items_from self.now.p.now self.now.key.now
-            self.now.mask_seed.now self.now.noise_seed.now 0 lines.now)) }
+            (map (short_item self.now.p.now) (items_from self.now.p.now self.now.key.now
+            self.now.mask_seed.now self.now.noise_seed.now 0 lines.now))) }
     {
         let mut number = 0;
         for line in lines {
@@ -143,18 +147,42 @@ impl<'a> Encryption<'a> {
         line: &ValueLine,
     ) -> Result<(), AllocError>
         requires fields { FieldsInRange self.now.p.now }
+        requires key { length self.now.key.now ≡ large_dim self.now.p.now }
         requires line { IsValueLine line.now }
         requires numbers { number + 64 < 2 ^ 32 }
         requires room { length words.old ≡ length self.now.key.now + 1 }
-        ensures { OnOk result (file.new ≡ file.old ++ item_bytes (line_item self.now.p.now
-            self.now.key.now self.now.mask_seed.now self.now.noise_seed.now number line.now)) }
+        ensures { OnOk result (file.new ≡ file.old ++ item_bytes (short_item self.now.p.now
+            (line_item self.now.p.now self.now.key.now
+            self.now.mask_seed.now self.now.noise_seed.now number line.now))) }
     {
         file.item(&line.name, line.kind, line.bits)?;
         for i in 0..line.kind.block_count(self.p.message_bits, line.bits) {
-            let tags = self.block_into(number, line, i, words);
-            file.block(words, tags)?;
+            self.write_block(file, words, number, line, i)?;
         }
         Ok(())
+    }
+
+    /// Adds the body of block i of a line, whose first block has this number.
+    fn write_block(
+        &self,
+        file: &mut CipherWriter,
+        words: &mut [u64],
+        number: u32,
+        line: &ValueLine,
+        i: u32,
+    ) -> Result<(), AllocError>
+        requires fields { FieldsInRange self.now.p.now }
+        requires key { length self.now.key.now ≡ large_dim self.now.p.now }
+        requires line { IsValueLine line.now }
+        requires numbers { number + 64 < 2 ^ 32 }
+        requires here { i < block_count line.now.kind self.now.p.now.message_bits line.now.bits }
+        requires room { length words.old ≡ length self.now.key.now + 1 }
+        ensures { OnOk result (file.new ≡ file.old ++ block_bytes (short_block self.now.p.now
+            (line_block_of self.now.p.now self.now.key.now
+            self.now.mask_seed.now self.now.noise_seed.now number line.now i))) }
+    {
+        let tags = self.block_into(number, line, i, words);
+        file.block(&words[self.key.bits().len()..], tags)
     }
 }
 

@@ -10,11 +10,11 @@ use Rattle.rx_net.specs.declared.fault.NetFault.TheVariants.{Range}
 use Rattle.rx_codec.specs.declared.fault.CodecFault.TheVariants.{Magic, Short, Long, Field, Params as RefusedParams, Memory}
 use Rattle.rx_server.specs.declared.fault.InputFault.TheVariants.{Degree}
 use Rattle.rx_report.specs.declared.refusal.Kind.{Kind}
-use Rattle.rx_report.specs.declared.refusal.Kind.TheVariants.{Malformed, NotAccepted, Mismatch, Inputs, Damaged, Limit}
-use Rattle.rx_report.specs.Reports.{status_of, Report, usage_line, too_long, malformed_text, not_accepted, illegal_net, malformed_binary, difference_of, mismatch, wrong_width, damaged, wrong_input, wrong_workers, many_jobs, wide_board}
+use Rattle.rx_report.specs.declared.refusal.Kind.TheVariants.{Malformed, NotAccepted, Mismatch, Inputs, Damaged, Limit, Seed}
+use Rattle.rx_report.specs.Reports.{status_of, Report, usage_line, too_long, malformed_text, not_accepted, illegal_net, malformed_binary, difference_of, mismatch, wrong_mask, wrong_width, damaged, wrong_input, wrong_workers, many_jobs, wide_board}
 
-statuses : (status_of Malformed ≡ 5) × (status_of NotAccepted ≡ 6) × (status_of Mismatch ≡ 7) × (status_of Inputs ≡ 8) × (status_of Damaged ≡ 9) × (status_of Limit ≡ 10)
-statuses = (refl, refl, refl, refl, refl, refl)
+statuses : (status_of Malformed ≡ 5) × (status_of NotAccepted ≡ 6) × (status_of Mismatch ≡ 7) × (status_of Inputs ≡ 8) × (status_of Damaged ≡ 9) × (status_of Limit ≡ 10) × (status_of Seed ≡ 12)
+statuses = (refl, refl, refl, refl, refl, refl, refl)
 
 -- a line of this kind
 abbrev reported : Kind → List ℕ → Report
@@ -61,6 +61,10 @@ differences = (refl, refl)
 mismatches : mismatch (codes "f") (record { field = 2; first = 2; other = 1 }) ≡ reported Mismatch (codes "mismatch f glwe_dim 2 1")
 unfolding digits
 mismatches = refl
+
+masks : wrong_mask (codes "f") 54 ≡ reported Seed (codes "seed f 54")
+unfolding digits
+masks = refl
 
 inputs : (wrong_width (codes "b") 9 ≡ reported Inputs (codes "inputs b width 9")) × (wrong_input (Degree (codes "a") 3 2) ≡ reported Inputs (codes "inputs a degree 3 2"))
 unfolding digits

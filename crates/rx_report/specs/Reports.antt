@@ -18,7 +18,7 @@ use Rattle.rx_server.specs.declared.fault.InputFault.{InputFault}
 use Rattle.rx_server.specs.declared.fault.InputFault.TheVariants.{Missing, Twice, Form as WrongForm, Degree, Noise as TooNoisy}
 use Rattle.rx_report.specs.declared.difference.Difference.{Difference}
 use Rattle.rx_report.specs.declared.refusal.Kind.{Kind}
-use Rattle.rx_report.specs.declared.refusal.Kind.TheVariants.{Malformed, NotAccepted, Mismatch, Inputs, Damaged, Limit}
+use Rattle.rx_report.specs.declared.refusal.Kind.TheVariants.{Malformed, NotAccepted, Mismatch, Inputs, Damaged, Limit, Seed}
 
 -- the status of a kind of refusal
 abbrev pub status_of : Kind → ℕ
@@ -28,6 +28,7 @@ status_of Mismatch = 7
 status_of Inputs = 8
 status_of Damaged = 9
 status_of Limit = 10
+status_of Seed = 12
 
 -- a kind of refusal, and the line that reports it
 abbrev pub Report : Type 0
@@ -108,6 +109,10 @@ difference_of first other = first_difference 1 (fields_of first) (fields_of othe
 abbrev pub mismatch : List ℕ → Difference → Report
 mismatch name d =
     (Mismatch, codes "mismatch " ++ (name ++ (codes " " ++ (field_word d.field ++ (codes " " ++ (decimal d.first ++ (codes " " ++ (decimal d.other ++ 10 ∷ []))))))))
+
+-- ---- a mask word that a seed does not draw, by its place in the file
+abbrev pub wrong_mask : List ℕ → ℕ → Report
+wrong_mask name at = (Seed, codes "seed " ++ (name ++ (codes " " ++ (decimal at ++ 10 ∷ []))))
 
 -- ---- a number whose bits the blocks of a set do not make up
 abbrev pub wrong_width : List ℕ → ℕ → Report

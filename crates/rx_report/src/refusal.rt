@@ -19,12 +19,14 @@ pub enum Kind {
     Damaged,
     /// A counted quantity passes its limit.
     Limit,
+    /// A mask word is not the one that a seed draws.
+    Seed,
 }
 
 impl Kind {
     ghost use Rattle.rx_report.specs.Reports.{status_of};
 
-    /// The status of the program, 5 to 10.
+    /// The status of the program, 5 to 10 or 12.
     pub fn status(self) -> u8
         ensures { result ≡ status_of self }
     {
@@ -35,6 +37,7 @@ impl Kind {
             Kind::Inputs => 8,
             Kind::Damaged => 9,
             Kind::Limit => 10,
+            Kind::Seed => 12,
         }
     }
 }

@@ -1,7 +1,7 @@
 //! The lines of refusals. A file has the name that the words of the command give it.
 ghost use Rattle.std.specs.Prelude.{◌≡◌, IfOk, Some, string_bytes};
 ghost use Rattle.rx_params.specs.declared.params.Params.{Params};
-ghost use Rattle.rx_report.specs.Reports.{too_long, malformed_text, not_accepted, malformed_binary, illegal_net, net_words, mismatch, wrong_width, damaged, wrong_input, wrong_workers, many_jobs, wide_board, cause_word, field_word};
+ghost use Rattle.rx_report.specs.Reports.{too_long, malformed_text, not_accepted, malformed_binary, illegal_net, net_words, mismatch, wrong_mask, wrong_width, damaged, wrong_input, wrong_workers, many_jobs, wide_board, cause_word, field_word};
 
 use crate::difference::Difference;
 use crate::{Kind, Refusal};
@@ -134,6 +134,14 @@ pub fn mismatch(alloc: Global, name: &str, difference: Difference) -> Result<Ref
     let other = difference.other;
     let line = format!(in alloc; "mismatch {name} {field} {first} {other}\n")?;
     Ok(Refusal::new(Kind::Mismatch, line))
+}
+
+/// A mask word that a seed does not draw, by its place in bytes in the file.
+pub fn wrong_mask(alloc: Global, name: &str, at: u64) -> Result<Refusal, AllocError>
+    ensures { IfOk result (λ refusal. refusal ≡ wrong_mask name.now at) }
+{
+    let line = format!(in alloc; "seed {name} {at}\n")?;
+    Ok(Refusal::new(Kind::Seed, line))
 }
 
 /// A number of a value file whose bits are no multiple of the message bits.

@@ -1,6 +1,6 @@
 //! Runs of the program over files in memory.
 use rx_store::{MemSink, MemStore, Sink, Store};
-use rx_tool::{OpenGate, tool};
+use rx_tool::{Gate, OpenGate, tool};
 use std::alloc::{AllocError, Global};
 use std::thread::Threads;
 
@@ -32,6 +32,19 @@ pub fn run<R: Threads + Sync + AllocGlobal, S: Store, K: Sink>(
 ) -> Result<u8, AllocError> {
     let words = words_of(rt.alloc(), line)?;
     Ok(tool(rt, rt.alloc(), &words, store, sink, &OpenGate))
+}
+
+/// The status of the program for the words of a line, where a gate is told of each job that is run.
+pub fn run_through<R: Threads + Sync + AllocGlobal, G: Gate + Sync>(
+    rt: &R,
+    line: &str,
+    store: &mut MemStore,
+    gate: &G,
+) -> Result<u8, AllocError> {
+    let alloc = rt.alloc();
+    let words = words_of(alloc, line)?;
+    let mut sink = MemSink::new(alloc, Vec::new(alloc));
+    Ok(tool(rt, alloc, &words, store, &mut sink, gate))
 }
 
 /// The status and what was printed, to a sink that does not fail.

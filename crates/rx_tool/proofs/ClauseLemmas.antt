@@ -2,10 +2,11 @@
 use Rattle.std.proofs.Common.{◌≤◌, lit≤, ◌≡◌, ◌⊎◌, ◌≢◌, ℕ, List, [], refl, sym, ap, subst, ◌∙◌, inl, inr, arith, Some, None, Option, IfSome, IsSomeAnd, unwrap_or}
 use Rattle.std.specs.Option.{option_map}
 use Rattle.rx_store.specs.Files.{Files}
+use Rattle.rx_seeded.specs.Laws.{SeededFileLaws}
 use Rattle.rx_codec.specs.Laws.{FileLaws}
 use Rattle.rx_client.specs.Laws.{ReadingLaws}
 use Rattle.rx_report.specs.declared.refusal.Kind.{Kind}
-use Rattle.rx_report.specs.declared.refusal.Kind.TheVariants.{Malformed, NotAccepted, Mismatch, Inputs, Damaged, Limit}
+use Rattle.rx_report.specs.declared.refusal.Kind.TheVariants.{Malformed, NotAccepted, Mismatch, Inputs, Damaged, Limit, Seed}
 use Rattle.rx_tool.specs.declared.command.Command.{Command}
 use Rattle.rx_report.specs.Reports.{status_of, usage_line}
 use Rattle.rx_tool.specs.Commands.{command_refusal}
@@ -26,19 +27,20 @@ record IsOfKind (status : ℕ) : Type 0 where
   not_usage : status ≢ 2
   refusal : IsRefusal status
 
-of_kind : (status : ℕ) → 5 ≤ status → status ≤ 10 → IsOfKind status
-of_kind status low high = record {
+of_kind : (status : ℕ) → 5 ≤ status → status ≢ 11 → IsOfKind status
+of_kind status low other = record {
   not_usage = λ e. omega arith;
-  refusal = record { not_done = λ e. omega arith; not_read = λ e. omega arith; not_write = λ e. omega arith; not_memory = λ e. omega arith };
+  refusal = record { not_done = λ e. omega arith; not_read = λ e. omega arith; not_write = λ e. omega arith; not_memory = other };
 }
 
 kind_status : (kind : Kind) → IsOfKind (status_of kind)
-kind_status Malformed = of_kind 5 (lit≤ tt) (lit≤ tt)
-kind_status NotAccepted = of_kind 6 (lit≤ tt) (lit≤ tt)
-kind_status Mismatch = of_kind 7 (lit≤ tt) (lit≤ tt)
-kind_status Inputs = of_kind 8 (lit≤ tt) (lit≤ tt)
-kind_status Damaged = of_kind 9 (lit≤ tt) (lit≤ tt)
-kind_status Limit = of_kind 10 (lit≤ tt) (lit≤ tt)
+kind_status Malformed = of_kind 5 (lit≤ tt) (λ e. omega arith)
+kind_status NotAccepted = of_kind 6 (lit≤ tt) (λ e. omega arith)
+kind_status Mismatch = of_kind 7 (lit≤ tt) (λ e. omega arith)
+kind_status Inputs = of_kind 8 (lit≤ tt) (λ e. omega arith)
+kind_status Damaged = of_kind 9 (lit≤ tt) (λ e. omega arith)
+kind_status Limit = of_kind 10 (lit≤ tt) (λ e. omega arith)
+kind_status Seed = of_kind 12 (lit≤ tt) (λ e. omega arith)
 
 usage_status : IsRefusal 2
 usage_status = record { not_done = omega arith; not_read = omega arith; not_write = omega arith; not_memory = omega arith }
@@ -233,15 +235,15 @@ module _ {command : Option Command} {before after : World} where
   damage (out_of_memory given is accept out) nine = absurd (omega arith)
   damage (finished given is accept done) nine = absurd (omega arith)
 
-  never_damaged : {status : ℕ} → ReadingLaws → FileLaws → Ran command before after status → NeverDamaged command before status
-  never_damaged reading laws (refused given status line is refuse same prints) =
+  never_damaged : {status : ℕ} → ReadingLaws → FileLaws → SeededFileLaws → Ran command before after status → NeverDamaged command before status
+  never_damaged reading laws versions (refused given status line is refuse same prints) =
       one_told before.files is.told (λ f g kept nine.
-      kept_passes reading laws command given line (subst (DecryptsKept command) g kept) (refuse ∙ ap (λ s. Some (s, line)) nine))
-  never_damaged reading laws (unread has alone why) = any_told before.files (λ f kept nine. omega arith)
-  never_damaged reading laws (no_memory alone) = any_told before.files (λ f kept nine. omega arith)
-  never_damaged reading laws (stopped given is accept stop) = any_told before.files (λ f kept nine. omega arith)
-  never_damaged reading laws (out_of_memory given is accept out) = any_told before.files (λ f kept nine. omega arith)
-  never_damaged reading laws (finished given is accept done) = any_told before.files (λ f kept nine. omega arith)
+      kept_passes reading laws versions command given line (subst (DecryptsKept command) g kept) (refuse ∙ ap (λ s. Some (s, line)) nine))
+  never_damaged reading laws versions (unread has alone why) = any_told before.files (λ f kept nine. omega arith)
+  never_damaged reading laws versions (no_memory alone) = any_told before.files (λ f kept nine. omega arith)
+  never_damaged reading laws versions (stopped given is accept stop) = any_told before.files (λ f kept nine. omega arith)
+  never_damaged reading laws versions (out_of_memory given is accept out) = any_told before.files (λ f kept nine. omega arith)
+  never_damaged reading laws versions (finished given is accept done) = any_told before.files (λ f kept nine. omega arith)
 
   done_by : {status : ℕ} → Ran command before after status → status ≡ 0 → OfReading command before (λ given. Finished command given before after)
   done_by (refused given status line is refuse same prints) zero = absurd ((of_refusal command given status line refuse).not_done zero)
@@ -300,8 +302,8 @@ of_told P Q None all some = absurd some
 of_told P Q (Some f) all some = all some
 
 -- the whole contract
-pub outcome : {command : Option Command} {before after : World} {status : ℕ} → ReadingLaws → FileLaws → Ran command before after status → IsOutcome command before after status
-outcome {command} {before} {after} {status} reading laws ran = record {
+pub outcome : {command : Option Command} {before after : World} {status : ℕ} → ReadingLaws → FileLaws → SeededFileLaws → Ran command before after status → IsOutcome command before after status
+outcome {command} {before} {after} {status} reading laws versions ran = record {
   usage = usage ran;
   no_command = no_usage ran;
   usage_reported = usage_reported ran;
@@ -314,7 +316,7 @@ outcome {command} {before} {after} {status} reading laws ran = record {
   unwritten = unwritten ran;
   silent = silent ran;
   damage = damage ran;
-  undamaged = never_damaged reading laws ran;
+  undamaged = never_damaged reading laws versions ran;
   done = done_by ran;
   stopped = stopped_by ran;
   ran_out = ran_out ran;

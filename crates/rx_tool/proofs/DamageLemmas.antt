@@ -1,6 +1,6 @@
 -- Damage is told by `decrypt` alone: no other command has a refusal of that kind.
 use Rattle.std.proofs.Common.{◌≡◌, ◌≢◌, ℕ, List, [], ◌∷◌, refl, ap, Some, None, Option, Result, Ok, Err, IfSome, Bool, true, false, arith, unwrap_or}
-use Rattle.std.specs.Prelude.{if◌then◌else◌}
+use Rattle.std.specs.Prelude.{if◌then◌else◌, codes}
 use Rattle.std.specs.Option.{option_map, option_or}
 use Rattle.rx_text.specs.declared.fault.LineFault.{LineFault}
 use Rattle.rx_params.specs.declared.params.Params.{Params}
@@ -10,6 +10,11 @@ use Rattle.rx_params.specs.Acceptance.{refusal_of}
 use Rattle.rx_params.specs.Text.{params_from}
 use Rattle.rx_circuit.specs.declared.values.ValueLine.{ValueLine}
 use Rattle.rx_circuit.specs.Values.{values_from}
+use Rattle.rx_circuit.specs.declared.inputs.InputError.{InputError}
+use Rattle.rx_circuit.specs.declared.inputs.InputError.TheVariants.{Missing as MissingNumber, Form as NumberForm, Memory as NoMemory}
+use Rattle.rx_circuit.specs.Inputs.{found_inputs}
+use Rattle.rx_language.specs.Programs.{Program, inputs_of}
+use Rattle.rx_language.specs.Reading.{circuit_from}
 use Rattle.rx_client.specs.Encrypt.{first_width}
 use Rattle.rx_net.specs.declared.net.Net.{Net}
 use Rattle.rx_boot.specs.ServerKeys.{ServerWords}
@@ -21,22 +26,29 @@ use Rattle.rx_codec.specs.ClientFile.{client_from}
 use Rattle.rx_codec.specs.ServerFile.{server_from}
 use Rattle.rx_codec.specs.NetFile.{net_from}
 use Rattle.rx_codec.specs.CipherFile.{cipher_from}
+use Rattle.rx_seeded.specs.FileKinds.{begins}
+use Rattle.rx_seeded.specs.SeededServer.{seeded_server_from, wrong_server_mask}
+use Rattle.rx_seeded.specs.SeededCipher.{seeded_cipher_from, wrong_cipher_mask}
+use Rattle.rx_seeded.specs.Versions.{any_server_from, any_cipher_from}
 use Rattle.rx_server.specs.declared.fault.InputFault.{InputFault}
 use Rattle.rx_server.specs.declared.fault.InputFault.TheVariants.{Missing, Twice, Form as WrongForm, Degree, Noise as TooNoisy}
 use Rattle.rx_server.specs.Inputs.{items_of, first_fault}
 use Rattle.rx_report.specs.declared.difference.Difference.{Difference}
 use Rattle.rx_report.specs.declared.refusal.Kind.{Kind}
-use Rattle.rx_report.specs.declared.refusal.Kind.TheVariants.{Malformed, NotAccepted, Mismatch, Inputs, Damaged, Limit}
-use Rattle.rx_report.specs.Reports.{Report, status_of, not_accepted, malformed_binary, mismatch, difference_of, wrong_input, wrong_width}
+use Rattle.rx_report.specs.declared.refusal.Kind.TheVariants.{Malformed, NotAccepted, Mismatch, Inputs, Damaged, Limit, Seed}
+use Rattle.rx_report.specs.Reports.{Report, status_of, not_accepted, malformed_binary, mismatch, difference_of, wrong_input, wrong_mask, wrong_width}
 use Rattle.rx_tool.specs.declared.command.Source.{Source}
 use Rattle.rx_tool.specs.declared.command.Source.TheVariants.{Named, File}
 use Rattle.rx_tool.specs.declared.command.Command.{Command}
-use Rattle.rx_tool.specs.declared.command.Command.TheVariants.{Check, MakeClient, Keygen, Encrypt, Run, Decrypt}
+use Rattle.rx_tool.specs.declared.command.Command.TheVariants.{Check, MakeClient, Keygen, Encrypt, Run, Decrypt, Plain, Make, Migrate, Expand}
 use Rattle.rx_tool.specs.Sources.{read_refusal, source_refusal}
 use Rattle.rx_tool.specs.Keygen.{keygen_refused, keygen_refusal}
 use Rattle.rx_tool.specs.Encrypt.{encrypt_refused, encrypt_refusal}
 use Rattle.rx_tool.specs.Refusals.{space_difference, set_difference, workers_refusal, jobs_refusal, board_refusal, limits_refusal}
 use Rattle.rx_tool.specs.Run.{one_malformed, malformed_input, ciphers_of, inputs_refusal, values_refusal, run_refused, run_refusal}
+use Rattle.rx_tool.specs.Plain.{inputs_refused, plain_refused, plain_refusal}
+use Rattle.rx_tool.specs.Migrate.{migrate_server_refused, migrate_cipher_refused, migrate_refusal}
+use Rattle.rx_tool.specs.Expand.{expand_server_refused, expand_cipher_refused, expand_refusal}
 use Rattle.rx_tool.specs.Commands.{command_refusal}
 use Rattle.rx_tool.specs.Got.{Got, whole, long, missing, as_report, refuses}
 use Rattle.rx_tool.specs.Told.{IsDecrypt}
@@ -134,7 +146,7 @@ of_encrypt client values (first ∷ second ∷ more ∷ files) = tt
 of_inputs : (names files : List (List ℕ)) → NotDamage (malformed_input names files)
 of_inputs [] files = tt
 of_inputs (name ∷ names) [] = tt
-of_inputs (name ∷ names) (file ∷ files) = of_one (cipher_from file) (of_inputs names files)
+of_inputs (name ∷ names) (file ∷ files) = of_one (any_cipher_from file) (of_inputs names files)
   where
     of_one : (read : Result Cipher CodecFault) → NotDamage (malformed_input names files) → NotDamage (one_malformed name read (malformed_input names files))
     of_one (Err fault) rest = of_binary name fault
@@ -150,13 +162,67 @@ of_values p net_name net workers names ciphers =
 of_run : (server net : List ℕ) (workers : ℕ) (names files : List (List ℕ)) → NotDamage (run_refusal server net workers names files)
 of_run server net workers names [] = tt
 of_run server net workers names (file ∷ []) = tt
-of_run server net workers names (first ∷ second ∷ files) = of_read (server_from first) (net_from second)
+of_run server net workers names (first ∷ second ∷ files) = of_read (any_server_from first) (net_from second)
   where
     of_read : (key : Result ServerWords CodecFault) (read : Result Net CodecFault) → NotDamage (run_refused server net workers names key read files)
     of_read (Err fault) read = of_binary server fault
     of_read (Ok k) (Err fault) = of_binary net fault
     of_read (Ok k) (Ok n) =
         either (malformed_input names files) _ (of_inputs names files) (of_values k.params net n workers names (ciphers_of files))
+
+of_plain : (circuit values : List ℕ) (files : List (List ℕ)) → NotDamage (plain_refusal circuit values files)
+of_plain circuit values [] = tt
+of_plain circuit values (file ∷ []) = tt
+of_plain circuit values (first ∷ second ∷ []) = of_read (circuit_from first) (values_from second)
+  where
+    of_given : (found : Result (List ℕ) InputError) → NotDamage (inputs_refused found)
+    of_given (Ok numbers) = tt
+    of_given (Err (MissingNumber name)) = λ e. cc
+    of_given (Err (NumberForm name)) = λ e. cc
+    of_given (Err NoMemory) = tt
+
+    of_read : (read : Result Program LineFault) (lines : Result (List ValueLine) LineFault) → NotDamage (plain_refused circuit values read lines)
+    of_read (Err fault) lines = λ e. cc
+    of_read (Ok p) (Err fault) = λ e. cc
+    of_read (Ok p) (Ok lines) = of_given (found_inputs (inputs_of p) lines)
+of_plain circuit values (first ∷ second ∷ more ∷ files) = tt
+
+of_mask : (name : List ℕ) (wrong : Option ℕ) → NotDamage (option_map (wrong_mask name) wrong)
+of_mask name None = tt
+of_mask name (Some at) = λ e. cc
+
+-- one of two refusals
+of_either : (b : Bool) (first later : Option Report) → NotDamage first → NotDamage later → NotDamage (if b then first else later)
+of_either true first later p q = p
+of_either false first later p q = q
+
+of_migrate : (mask_seed input : List ℕ) (files : List (List ℕ)) → NotDamage (migrate_refusal mask_seed input files)
+of_migrate mask_seed input [] = tt
+of_migrate mask_seed input (file ∷ []) =
+    of_either (begins file (codes "RXS1")) _ _ (of_server (server_from file)) (of_cipher (cipher_from file))
+  where
+    of_server : (read : Result ServerWords CodecFault) → NotDamage (migrate_server_refused mask_seed input read)
+    of_server (Err fault) = of_binary input fault
+    of_server (Ok k) = of_mask input (wrong_server_mask mask_seed k)
+
+    of_cipher : (read : Result Cipher CodecFault) → NotDamage (migrate_cipher_refused mask_seed input read)
+    of_cipher (Err fault) = of_binary input fault
+    of_cipher (Ok c) = of_mask input (wrong_cipher_mask mask_seed c)
+of_migrate mask_seed input (file ∷ more ∷ files) = tt
+
+of_expand : (input : List ℕ) (files : List (List ℕ)) → NotDamage (expand_refusal input files)
+of_expand input [] = tt
+of_expand input (file ∷ []) =
+    of_either (begins file (codes "RXS2")) _ _ (of_server (seeded_server_from file)) (of_cipher (seeded_cipher_from file))
+  where
+    of_server : (read : Result ServerWords CodecFault) → NotDamage (expand_server_refused input read)
+    of_server (Err fault) = of_binary input fault
+    of_server (Ok k) = tt
+
+    of_cipher : (read : Result Cipher CodecFault) → NotDamage (expand_cipher_refused input read)
+    of_cipher (Err fault) = of_binary input fault
+    of_cipher (Ok c) = tt
+of_expand input (file ∷ more ∷ files) = tt
 
 -- ---- the status of damage
 
@@ -167,6 +233,7 @@ of_kind Mismatch nine = absurd (omega arith)
 of_kind Inputs nine = absurd (omega arith)
 of_kind Damaged nine = refl
 of_kind Limit nine = absurd (omega arith)
+of_kind Seed nine = absurd (omega arith)
 
 pub same_status : (a b : ℕ) (l m : List ℕ) → ◌≡◌ {A = Option (ℕ × List ℕ)} (Some (a, l)) (Some (b, m)) → a ≡ b
 same_status a b l m e = ap (λ o. (unwrap_or {T = ℕ × List ℕ} o (a, l)).0) e
@@ -183,6 +250,10 @@ of_files (Keygen client mask_seed server) files line e = absurd (other_status _ 
 of_files (Encrypt client mask_seed noise_seed values out) files line e = absurd (other_status _ line (of_encrypt client values files) e)
 of_files (Run server net workers out inputs) files line e = absurd (other_status _ line (of_run server net workers inputs files) e)
 of_files (Decrypt client input) files line e = tt
+of_files (Plain circuit values) files line e = absurd (other_status _ line (of_plain circuit values files) e)
+of_files (Make number circuit values) files line e = absurd (other_status None line tt e)
+of_files (Migrate mask_seed input out) files line e = absurd (other_status _ line (of_migrate mask_seed input files) e)
+of_files (Expand input out) files line e = absurd (other_status _ line (of_expand input files) e)
 
 pub of_decrypt : (command : Option Command) (given : Got) (line : List ℕ) → refuses command given ≡ Some (9, line) → IsDecrypt command
 of_decrypt None given line e = absurd (omega (arith, same_status _ _ _ _ e))

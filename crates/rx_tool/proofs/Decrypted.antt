@@ -7,7 +7,7 @@ use Rattle.rx_codec.specs.declared.client.Client.{Client}
 use Rattle.rx_codec.specs.declared.cipher.Item.{Item}
 use Rattle.rx_codec.specs.declared.cipher.Cipher.{Cipher}
 use Rattle.rx_codec.specs.ClientFile.{ClientFile, client_from}
-use Rattle.rx_codec.specs.CipherFile.{CipherRead, cipher_from}
+use Rattle.rx_seeded.specs.Versions.{CipherRead, any_cipher_from}
 use Rattle.rx_codec.specs.Kept.{AreItemsKept}
 use Rattle.rx_client.specs.Decrypt.{item_lines, kept_lines, first_damage}
 use Rattle.rx_report.specs.declared.difference.Difference.{Difference}
@@ -29,16 +29,16 @@ pub record AreLinesOf (p : Params) (key : List ℕ) (items : List Item) (lines :
   pub kept : (digits : List (List ℕ)) → AreItemsKept p key items digits → lines ≡ kept_lines p.message_bits items digits
 
 module _ (client input first second : List ℕ) (c : Client) (x : Cipher) (found : Option Difference) where
-  not_refused : client_from first ≡ Ok c → cipher_from second ≡ Ok x → found ≡ difference_of c.params x.params → found ≡ None →
+  not_refused : client_from first ≡ Ok c → any_cipher_from second ≡ Ok x → found ≡ difference_of c.params x.params → found ≡ None →
       first_damage c.params (large_key c.params c.seed) x.items ≡ None → decrypt_refusal client input (first ∷ second ∷ []) ≡ None
   not_refused of_client of_cipher compared same none =
-      ap (λ read. decrypt_refused client input read (cipher_from second)) of_client
+      ap (λ read. decrypt_refused client input read (any_cipher_from second)) of_client
       ∙ ap (decrypt_refused client input (Ok c)) of_cipher
       ∙ ap (λ difference. differs_or_damaged input difference c x) (sym compared ∙ same)
       ∙ ap (option_map damaged) none
 
   pub decrypted : (files : List (List ℕ)) (key : List ℕ) (items : List Item) (writes : List (List ℕ × List ℕ)) (lines : List ℕ) →
-      files ≡ first ∷ second ∷ [] → client_from first ≡ Ok c → cipher_from second ≡ Ok x → ClientFile first c → CipherRead second x →
+      files ≡ first ∷ second ∷ [] → client_from first ≡ Ok c → any_cipher_from second ≡ Ok x → ClientFile first c → CipherRead second x →
       found ≡ difference_of c.params x.params → found ≡ None → key ≡ large_key c.params c.seed → items ≡ x.items →
       AreLinesOf c.params key items lines → writes ≡ [] →
       (decrypt_refusal client input files ≡ None) × DecryptDoes files writes lines

@@ -7,7 +7,8 @@ use Rattle.rx_params.specs.Text.{fields_of}
 use Rattle.rx_lwe.specs.Secret.{large_key}
 use Rattle.rx_codec.specs.declared.client.Client.{Client}
 use Rattle.rx_codec.specs.declared.cipher.Cipher.{Cipher}
-use Rattle.rx_codec.specs.CipherFile.{cipher_from}
+use Rattle.rx_seeded.specs.Versions.{any_cipher_from}
+use Rattle.rx_seeded.specs.Laws.{SeededFileLaws}
 use Rattle.rx_codec.specs.Kept.{AreItemsKept}
 use Rattle.rx_codec.specs.Laws.{FileLaws}
 use Rattle.rx_client.specs.Laws.{ReadingLaws}
@@ -25,7 +26,7 @@ none_differs field (x ∷ xs) = rw (eq-eqb x x refl) (none_differs (field + 1) x
 same_sets : (p q : Params) → q ≡ p → difference_of p q ≡ None
 same_sets p q e = ap (difference_of p) e ∙ none_differs 1 (fields_of p)
 
-module _ (reading : ReadingLaws) (laws : FileLaws) where
+module _ (reading : ReadingLaws) (laws : FileLaws) (versions : SeededFileLaws) where
   not_damaged : (input : List ℕ) (c : Client) (x : Cipher) (digits : List (List ℕ)) → Accepts c.params → x.params ≡ c.params →
       AreItemsKept c.params (large_key c.params c.seed) x.items digits →
       differs_or_damaged input (difference_of c.params x.params) c x ≡ None
@@ -37,8 +38,8 @@ module _ (reading : ReadingLaws) (laws : FileLaws) where
   decrypt_passes client input [] kept = absurd kept
   decrypt_passes client input (first ∷ []) kept = absurd kept
   decrypt_passes client input (first ∷ second ∷ []) (c, x, digits, of_client, of_cipher, same, are) =
-      ap (λ read. decrypt_refused client input read (cipher_from second)) (laws.client_read first c of_client)
-      ∙ ap (decrypt_refused client input (Ok c)) (laws.cipher_read second x of_cipher)
+      ap (λ read. decrypt_refused client input read (any_cipher_from second)) (laws.client_read first c of_client)
+      ∙ ap (decrypt_refused client input (Ok c)) (versions.cipher_read second x of_cipher)
       ∙ not_damaged input c x digits of_client.fits.accepted same are
   decrypt_passes client input (first ∷ second ∷ more ∷ files) kept = absurd kept
 

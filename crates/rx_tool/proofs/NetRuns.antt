@@ -16,7 +16,7 @@ use Rattle.rx_block.specs.Outputs.{output_blocks}
 use Rattle.rx_codec.specs.declared.cipher.Item.{Item}
 use Rattle.rx_codec.specs.declared.cipher.Cipher.{Cipher}
 use Rattle.rx_codec.specs.CipherFile.{CipherFile, IsCipher}
-use Rattle.rx_codec.specs.ServerFile.{ServerRead, server_from}
+use Rattle.rx_seeded.specs.Versions.{ServerRead, any_server_from}
 use Rattle.rx_codec.specs.NetFile.{NetFile, net_from}
 use Rattle.rx_crew.specs.Evaluation.{evaluated, AreInputs}
 use Rattle.rx_crew.proofs.CellTags.{evaluation_laws}
@@ -105,7 +105,7 @@ count_is files names ciphers lent words l m e same are =
     omega (arith, ap length same, length-ciphers (take (length files - 2) left) ciphers are, ap length all, length-drop 2 files, ap length e, length-map words string_bytes)
 
 module _ (server net out : List ℕ) (workers : ℕ) (names files : List (List ℕ)) (s n : List ℕ) (rest : List (List ℕ)) (k : ServerWords) (m : Net) (ciphers : List Cipher) where
-  pub refusal_is : (net_name : List ℕ) (p : Params) (words : List (List ℕ)) (lent : List Cipher) → files ≡ s ∷ n ∷ rest → server_from s ≡ Ok k → net_from n ≡ Ok m
+  pub refusal_is : (net_name : List ℕ) (p : Params) (words : List (List ℕ)) (lent : List Cipher) → files ≡ s ∷ n ∷ rest → any_server_from s ≡ Ok k → net_from n ≡ Ok m
       → net_name ≡ net → p ≡ k.params → words ≡ names → lent ≡ ciphers → (malformed_input words rest ≡ None) × ((ciphers ≡ ciphers_of rest) × AreCiphers rest ciphers)
       → run_refusal server net workers names files ≡ values_refusal p net_name m workers words lent
   refusal_is net_name p words lent e key legal same_net same_set same_words same read =
@@ -118,7 +118,7 @@ module _ (server net out : List ℕ) (workers : ℕ) (names files : List (List �
       ∙ sym (ap (λ name. values_refusal p name m workers words (ciphers_of rest)) same_net)
       ∙ sym (ap (values_refusal p net_name m workers words) (same ∙ read.1.0))
 
-  pub stopped_by_values : (net_name : List ℕ) (p : Params) (words : List (List ℕ)) (lent : List Cipher) (stop : Stop) → files ≡ s ∷ n ∷ rest → server_from s ≡ Ok k → net_from n ≡ Ok m
+  pub stopped_by_values : (net_name : List ℕ) (p : Params) (words : List (List ℕ)) (lent : List Cipher) (stop : Stop) → files ≡ s ∷ n ∷ rest → any_server_from s ≡ Ok k → net_from n ≡ Ok m
       → net_name ≡ net → p ≡ k.params → words ≡ names → lent ≡ ciphers → (malformed_input words rest ≡ None) × ((ciphers ≡ ciphers_of rest) × AreCiphers rest ciphers)
       → StopsFor (values_refusal p net_name m workers words lent) stop → StopsFor (run_refusal server net workers names files) stop
   stopped_by_values net_name p words lent stop e key legal same_net same_set same_words same read stops =

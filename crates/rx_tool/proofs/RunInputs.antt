@@ -1,5 +1,5 @@
 -- The files that were read, and those that are left.
-use Rattle.std.proofs.Common.{◌≡◌, ◌<◌, ◌+◌, ℕ, suc, List, [], ◌∷◌, ◌++◌, refl, sym, ap, subst, ◌∙◌, length, drop, get_or, arith, Some, None, Option, Result, Ok, Err, Bool, true, false, drop-cons, append_assoc, add-one}
+use Rattle.std.proofs.Common.{◌≡◌, ◌<◌, ◌+◌, ℕ, suc, List, [], ◌∷◌, ◌++◌, refl, sym, ap, subst, ◌∙◌, inl, inr, length, drop, get_or, arith, Some, None, Option, Result, Ok, Err, Bool, true, false, drop-cons, append_assoc, add-one}
 use Rattle.std.specs.Prelude.{◌==◌, if◌then◌else◌, IfOk, MatchResult, String, string_bytes}
 use Rattle.std.specs.declared.alloc.Global.{Global}
 use Rattle.std.specs.declared.alloc.AllocError.{AllocError}
@@ -10,7 +10,8 @@ use Rattle.rx_params.specs.declared.params.Params.{Params}
 use Rattle.rx_params.specs.Text.{fields_of}
 use Rattle.rx_codec.specs.declared.fault.CodecFault.{CodecFault}
 use Rattle.rx_codec.specs.declared.cipher.Cipher.{Cipher}
-use Rattle.rx_codec.specs.CipherFile.{CipherRead, cipher_from}
+use Rattle.rx_codec.specs.CipherFile.{IsCipher}
+use Rattle.rx_seeded.specs.Versions.{CipherRead, any_cipher_from}
 use Rattle.rx_crew.specs.Kernel.{basis_params}
 use Rattle.rx_server.specs.Laws.{AreCiphersOf}
 use Rattle.rx_report.specs.declared.difference.Difference.{Difference}
@@ -33,7 +34,7 @@ next xs i x p e = rw add-one (drop-cons xs i x p ∙ ap (λ y. y ∷ drop (suc i
 
 pub one_read : (names files : List (List ℕ)) (place : ℕ) (ciphers : List Cipher) (name file : List ℕ) (c : Cipher) → ReadSoFar names files place ciphers
     → place < length names → name ≡ get_or names place name → place < length files → file ≡ get_or files place file
-    → cipher_from file ≡ Ok c → CipherRead file c → ReadSoFar names files (place + 1) (ciphers ++ c ∷ [])
+    → any_cipher_from file ≡ Ok c → CipherRead file c → ReadSoFar names files (place + 1) (ciphers ++ c ∷ [])
 one_read names files place ciphers name file c so p e q f is spells =
     let ns : drop place names ≡ name ∷ drop (place + 1) names = next names place name p e in
     let fs : drop place files ≡ file ∷ drop (place + 1) files = next files place file q f in
@@ -52,14 +53,14 @@ one_read names files place ciphers name file c so p e q f is spells =
 
 pub stopped_at : (names files : List (List ℕ)) (place : ℕ) (ciphers : List Cipher) (name file : List ℕ) (report : Report) → ReadSoFar names files place ciphers
     → place < length names → name ≡ get_or names place name → place < length files → file ≡ get_or files place file
-    → one_malformed name (cipher_from file) None ≡ Some report → malformed_input names files ≡ Some report
+    → one_malformed name (any_cipher_from file) None ≡ Some report → malformed_input names files ≡ Some report
 stopped_at names files place ciphers name file report so p e q f stops =
     let ns : drop place names ≡ name ∷ drop (place + 1) names = next names place name p e in
     let fs : drop place files ≡ file ∷ drop (place + 1) files = next files place file q f in
     let refusal : malformed_input (name ∷ drop (place + 1) names) (file ∷ drop (place + 1) files) ≡ malformed_input names files =
     subst (λ xs. malformed_input xs (file ∷ drop (place + 1) files) ≡ malformed_input names files) ns
     (subst (λ ys. malformed_input (drop place names) ys ≡ malformed_input names files) fs so.refusal) in
-    sym refusal ∙ at_once name (cipher_from file) (malformed_input (drop (place + 1) names) (drop (place + 1) files)) report stops
+    sym refusal ∙ at_once name (any_cipher_from file) (malformed_input (drop (place + 1) names) (drop (place + 1) files)) report stops
   where
     at_once : (name : List ℕ) (read : Result Cipher CodecFault) (later : Option Report) (report : Report) → one_malformed name read None ≡ Some report → one_malformed name read later ≡ Some report
     at_once name (Ok c) later report e = absurd cc
@@ -108,11 +109,15 @@ differs_at p names ciphers place name c d so l e m f some =
     sym so.refusal ∙ ap (set_difference p (drop place names)) cs ∙ ap (λ xs. set_difference p xs (c ∷ drop (place + 1) ciphers)) ns
     ∙ ap (λ d. option_or (option_map (mismatch name) d) (set_difference p (drop (place + 1) names) (drop (place + 1) ciphers))) some
 
+read_fits : (file : List ℕ) (c : Cipher) → CipherRead file c → IsCipher c
+read_fits file c (inl first) = first.fits
+read_fits file c (inr second) = second.1.fits
+
 pub values_fit : (files : List (List ℕ)) (ciphers : List Cipher) → AreCiphers files ciphers → AreCipherValues ciphers
 values_fit [] [] are = tt
 values_fit [] (c ∷ ciphers) are = absurd are
 values_fit (file ∷ files) [] are = absurd are
-values_fit (file ∷ files) (c ∷ ciphers) are = (are.0.fits, values_fit files ciphers are.1)
+values_fit (file ∷ files) (c ∷ ciphers) are = (read_fits file c are.0, values_fit files ciphers are.1)
 
 pub of_set : (p : Params) (ciphers : List Cipher) → AreOfSet p ciphers → AreCipherValues ciphers → AreCiphersOf p ciphers
 of_set p [] same fit = tt
@@ -142,7 +147,7 @@ stops_for refusal r (Err error) stop is e s = subst (StopsFor refusal) (sym s) t
 
 pub stopped_for : (names files : List (List ℕ)) (place : ℕ) (ciphers : List Cipher) (name file : List ℕ) (stop : Stop) → ReadSoFar names files place ciphers
     → (place < length names) × (name ≡ get_or names place name) → place < length files → file ≡ get_or files place file
-    → StopsFor (one_malformed name (cipher_from file) None) stop → StopsFor (malformed_input names files) stop
+    → StopsFor (one_malformed name (any_cipher_from file) None) stop → StopsFor (malformed_input names files) stop
 stopped_for names files place ciphers name file (Refused report) so n q f stops = stopped_at names files place ciphers name file report so n.0 n.1 q f stops
 stopped_for names files place ciphers name file Read so n q f stops = absurd stops
 stopped_for names files place ciphers name file Memory so n q f stops = tt

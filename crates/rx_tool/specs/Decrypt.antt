@@ -6,7 +6,7 @@ use Rattle.rx_codec.specs.declared.client.Client.{Client}
 use Rattle.rx_codec.specs.declared.cipher.Cipher.{Cipher}
 use Rattle.rx_codec.specs.declared.fault.CodecFault.{CodecFault}
 use Rattle.rx_codec.specs.ClientFile.{ClientFile, client_from}
-use Rattle.rx_codec.specs.CipherFile.{CipherRead, cipher_from}
+use Rattle.rx_seeded.specs.Versions.{CipherRead, any_cipher_from}
 use Rattle.rx_codec.specs.Kept.{AreItemsKept}
 use Rattle.rx_client.specs.Decrypt.{item_lines, kept_lines, first_damage}
 use Rattle.rx_report.specs.declared.difference.Difference.{Difference}
@@ -35,7 +35,7 @@ decrypt_refused client input (Ok c) (Ok x) = differs_or_damaged input (differenc
 -- what refuses: the client file, then the ciphertext file, then a difference of their sets, then a damaged block
 abbrev pub decrypt_refusal : List ℕ → List ℕ → List (List ℕ) → Option Report
 decrypt_refusal client input (client_file ∷ cipher_file ∷ []) =
-    decrypt_refused client input (client_from client_file) (cipher_from cipher_file)
+    decrypt_refused client input (client_from client_file) (any_cipher_from cipher_file)
 decrypt_refusal client input _ = None
 
 -- where the blocks keep digits under the client's key, the lines are those of the digits' numbers

@@ -1,4 +1,4 @@
--- encrypt CLIENT MASKSEED NOISESEED VALUES OUT: writes the ciphertext file of the fresh blocks of all numbers.
+-- encrypt CLIENT MASKSEED NOISESEED VALUES OUT: writes the seeded ciphertext file of the fresh blocks of all numbers.
 use Rattle.std.specs.Prelude.{ℕ, ◌≡◌, List, [], ◌∷◌, map, Option, Some, None, Result, Ok, Err}
 use Rattle.std.specs.Option.{option_map, option_and_then}
 use Rattle.rx_text.specs.declared.fault.LineFault.{LineFault}
@@ -9,7 +9,7 @@ use Rattle.rx_codec.specs.declared.client.Client.{Client}
 use Rattle.rx_codec.specs.declared.cipher.Cipher.{Cipher}
 use Rattle.rx_codec.specs.declared.fault.CodecFault.{CodecFault}
 use Rattle.rx_codec.specs.ClientFile.{ClientFile, client_from}
-use Rattle.rx_codec.specs.CipherFile.{CipherFile}
+use Rattle.rx_seeded.specs.SeededCipher.{SeededCipher}
 use Rattle.rx_codec.specs.Kept.{AreItemsKept}
 use Rattle.rx_client.specs.Encrypt.{line_digits, encrypted_values, first_width, KeepsValues}
 use Rattle.rx_report.specs.Reports.{Report, malformed_binary, malformed_text, wrong_width}
@@ -41,12 +41,12 @@ encrypt_refusal client values _ = None
 abbrev pub encryption : Client → List ℕ → List ℕ → List ValueLine → Cipher
 encryption c mask_seed noise_seed lines = encrypted_values c.params (large_key c.params c.seed) mask_seed noise_seed lines
 
--- the files that a client and its value lines spell, the ciphertext file of their encryption, and that each of its blocks
+-- the files that a client and its value lines spell, the seeded ciphertext file of their encryption, and that each of its blocks
 -- keeps its digit under the client's key, item by item
 abbrev pub EncryptDoes : List ℕ → List ℕ → List ℕ → List (List ℕ) → List (List ℕ × List ℕ) → List ℕ → Type 0
 EncryptDoes mask_seed noise_seed out (client_file ∷ value_file ∷ []) writes lines =
     (c : Client) × (values : List ValueLine) × (bytes : List ℕ) × ClientFile client_file c × ValuesText value_file values
-    × CipherFile bytes (encryption c mask_seed noise_seed values)
+    × SeededCipher bytes mask_seed (encryption c mask_seed noise_seed values)
     × KeepsValues c.params (large_key c.params c.seed) (encryption c mask_seed noise_seed values).items values
     × AreItemsKept c.params (large_key c.params c.seed) (encryption c mask_seed noise_seed values).items
     (map (line_digits c.params.message_bits) values)

@@ -1,4 +1,4 @@
--- keygen CLIENT MASKSEED SERVER: writes the server file of a client's key.
+-- keygen CLIENT MASKSEED SERVER: writes the seeded server file of a client's key.
 use Rattle.std.specs.Prelude.{ℕ, ◌≡◌, List, [], ◌∷◌, Option, None, Result, Ok, Err}
 use Rattle.std.specs.Option.{option_map}
 use Rattle.rx_lwe.specs.Secret.{small_key, large_key}
@@ -6,7 +6,7 @@ use Rattle.rx_boot.specs.ServerKeys.{IsServerKey, server_key}
 use Rattle.rx_codec.specs.declared.client.Client.{Client}
 use Rattle.rx_codec.specs.declared.fault.CodecFault.{CodecFault}
 use Rattle.rx_codec.specs.ClientFile.{ClientFile, client_from}
-use Rattle.rx_codec.specs.ServerFile.{ServerFile}
+use Rattle.rx_seeded.specs.SeededServer.{SeededServer}
 use Rattle.rx_report.specs.Reports.{Report, malformed_binary}
 use Rattle.rx_tool.specs.declared.command.Command.{Command}
 use Rattle.rx_tool.specs.declared.command.Command.TheVariants.{Keygen}
@@ -25,10 +25,10 @@ abbrev pub keygen_refusal : List ℕ → List (List ℕ) → Option Report
 keygen_refusal client (client_file ∷ []) = keygen_refused client (client_from client_file)
 keygen_refusal client _ = None
 
--- the server file of the key that the client's seed and the mask seed make, and that it is a server key of the client's secret
+-- the seeded server file of the key that the client's seed and the mask seed make, and that it is a server key of the client's secret
 abbrev pub KeygenDoes : List ℕ → List ℕ → List (List ℕ) → List (List ℕ × List ℕ) → List ℕ → Type 0
 KeygenDoes mask_seed server (client_file ∷ []) writes lines =
-    (c : Client) × (bytes : List ℕ) × ClientFile client_file c × ServerFile bytes (server_key c.params c.seed mask_seed)
+    (c : Client) × (bytes : List ℕ) × ClientFile client_file c × SeededServer bytes mask_seed (server_key c.params c.seed mask_seed)
     × IsServerKey (small_key c.params c.seed) (large_key c.params c.seed) (server_key c.params c.seed mask_seed)
     × (writes ≡ (server, bytes) ∷ []) × (lines ≡ [])
 KeygenDoes mask_seed server _ writes lines = ⊥

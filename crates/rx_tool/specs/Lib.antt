@@ -7,6 +7,10 @@ pub mod Encrypt
 pub mod Refusals
 pub mod Run
 pub mod Decrypt
+pub mod Plain
+pub mod Make
+pub mod Migrate
+pub mod Expand
 pub mod Commands
 pub mod Answers
 pub mod World
@@ -17,3 +21,4 @@ pub mod Ends
 pub mod Told
 pub mod Outcome
 pub mod WholeWay
+pub mod BothWays

@@ -14,9 +14,9 @@ use Rattle.rx_block.specs.Combine.{degree_in, noise_in}
 use Rattle.rx_block.specs.Keeps.{AreKept}
 use Rattle.rx_codec.specs.declared.cipher.Cipher.{Cipher}
 use Rattle.rx_codec.specs.declared.fault.CodecFault.{CodecFault}
-use Rattle.rx_codec.specs.ServerFile.{ServerRead, server_from}
 use Rattle.rx_codec.specs.NetFile.{NetFile, net_from}
-use Rattle.rx_codec.specs.CipherFile.{CipherFile, CipherRead, IsCipher, cipher_from}
+use Rattle.rx_codec.specs.CipherFile.{CipherFile, IsCipher}
+use Rattle.rx_seeded.specs.Versions.{ServerRead, CipherRead, any_server_from, any_cipher_from}
 use Rattle.rx_codec.specs.Kept.{AreItemsKept}
 use Rattle.rx_server.specs.Inputs.{items_of, first_fault, blocks_found, digits_found}
 use Rattle.rx_server.specs.Outputs.{outputs_cipher}
@@ -50,7 +50,7 @@ one_malformed name (Ok c) later = later
 abbrev pub malformed_input : List (List ℕ) → List (List ℕ) → Option Report
 malformed_input [] files = None
 malformed_input (name ∷ names) [] = None
-malformed_input (name ∷ names) (file ∷ files) = one_malformed name (cipher_from file) (malformed_input names files)
+malformed_input (name ∷ names) (file ∷ files) = one_malformed name (any_cipher_from file) (malformed_input names files)
 
 -- the ciphers of files that spell them
 abbrev pub cipher_before : Result Cipher CodecFault → List Cipher → List Cipher
@@ -59,7 +59,7 @@ cipher_before (Ok c) ciphers = c ∷ ciphers
 
 abbrev pub ciphers_of : List (List ℕ) → List Cipher
 ciphers_of [] = []
-ciphers_of (file ∷ files) = cipher_before (cipher_from file) (ciphers_of files)
+ciphers_of (file ∷ files) = cipher_before (any_cipher_from file) (ciphers_of files)
 
 -- the first input of the net that the files do not give as it wants it
 abbrev pub inputs_refusal : List NetInput → List Cipher → Option Report
@@ -81,7 +81,7 @@ run_refused server net workers names (Ok k) (Ok n) files =
 -- what refuses: the server file, the net file, the ciphertext files in their order, and then their values
 abbrev pub run_refusal : List ℕ → List ℕ → ℕ → List (List ℕ) → List (List ℕ) → Option Report
 run_refusal server net workers names (server_file ∷ net_file ∷ files) =
-    run_refused server net workers names (server_from server_file) (net_from net_file) files
+    run_refused server net workers names (any_server_from server_file) (net_from net_file) files
 run_refusal server net workers names _ = None
 
 -- ---- what is known where nothing refuses

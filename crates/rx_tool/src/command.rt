@@ -8,6 +8,10 @@ ghost use Rattle.rx_tool.specs.Keygen.{keygen_of};
 ghost use Rattle.rx_tool.specs.Encrypt.{encrypt_of};
 ghost use Rattle.rx_tool.specs.Run.{run_of, word_number};
 ghost use Rattle.rx_tool.specs.Decrypt.{decrypt_of};
+ghost use Rattle.rx_tool.specs.Plain.{plain_of};
+ghost use Rattle.rx_tool.specs.Make.{make_of};
+ghost use Rattle.rx_tool.specs.Migrate.{migrate_of};
+ghost use Rattle.rx_tool.specs.Expand.{expand_of};
 ghost use Rattle.rx_tool.specs.Words.{texts};
 
 use crate::words::{Names, Word};
@@ -43,6 +47,14 @@ pub enum Command<'a> {
     Run(Word<'a>, Word<'a>, u64, Word<'a>, Names<'a>),
     /// `decrypt CLIENT IN`.
     Decrypt(Word<'a>, Word<'a>),
+    /// `plain CIRCUIT VALUES`.
+    Plain(Word<'a>, Word<'a>),
+    /// `make NUMBER CIRCUIT VALUES`.
+    Make(u64, Word<'a>, Word<'a>),
+    /// `migrate MASKSEED IN OUT`.
+    Migrate([u8; 32], Word<'a>, Word<'a>),
+    /// `expand IN OUT`.
+    Expand(Word<'a>, Word<'a>),
 }
 
 /// The command of some words, None where they are no command.
@@ -63,6 +75,14 @@ pub fn parse(words: &[String]) -> Option<Command<'_>>
         parse_run(arguments)
     } else if word == "decrypt" {
         parse_decrypt(arguments)
+    } else if word == "plain" {
+        parse_plain(arguments)
+    } else if word == "make" {
+        parse_make(arguments)
+    } else if word == "migrate" {
+        parse_migrate(arguments)
+    } else if word == "expand" {
+        parse_expand(arguments)
     } else {
         None
     }
@@ -184,6 +204,59 @@ fn parse_decrypt(arguments: &[String]) -> Option<Command<'_>>
     }
 }
 
+fn parse_plain(arguments: &[String]) -> Option<Command<'_>>
+    ensures { result ≡ plain_of (texts arguments.now) }
+{
+    match arguments {
+        [circuit, values] => Some(Command::Plain(
+            Word::new(circuit.as_str()),
+            Word::new(values.as_str()),
+        )),
+        _ => None,
+    }
+}
+
+fn parse_make(arguments: &[String]) -> Option<Command<'_>>
+    ensures { result ≡ make_of (texts arguments.now) }
+{
+    match arguments {
+        [number, circuit, values] => {
+            let number = parse_number(number.as_str())?;
+            Some(Command::Make(
+                number,
+                Word::new(circuit.as_str()),
+                Word::new(values.as_str()),
+            ))
+        }
+        _ => None,
+    }
+}
+
+fn parse_migrate(arguments: &[String]) -> Option<Command<'_>>
+    ensures { result ≡ migrate_of (texts arguments.now) }
+{
+    match arguments {
+        [mask_seed, input, out] => {
+            let mask_seed = parse_seed(mask_seed.as_str())?;
+            Some(Command::Migrate(
+                mask_seed,
+                Word::new(input.as_str()),
+                Word::new(out.as_str()),
+            ))
+        }
+        _ => None,
+    }
+}
+
+fn parse_expand(arguments: &[String]) -> Option<Command<'_>>
+    ensures { result ≡ expand_of (texts arguments.now) }
+{
+    match arguments {
+        [input, out] => Some(Command::Expand(Word::new(input.as_str()), Word::new(out.as_str()))),
+        _ => None,
+    }
+}
+
 impl<'a> Command<'a> {
     ghost use Rattle.rx_tool.specs.Commands.{reads_of};
 
@@ -198,6 +271,10 @@ impl<'a> Command<'a> {
             Command::Encrypt(client, _, _, values, _) => both(alloc, client, values),
             Command::Run(server, net, _, _, inputs) => both_and(alloc, server, net, inputs),
             Command::Decrypt(client, input) => both(alloc, client, input),
+            Command::Plain(circuit, values) => both(alloc, circuit, values),
+            Command::Make(_, _, _) => Ok(Vec::new(alloc)),
+            Command::Migrate(_, input, _) => one(alloc, input),
+            Command::Expand(input, _) => one(alloc, input),
         }
     }
 }

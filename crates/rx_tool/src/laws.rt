@@ -1,9 +1,12 @@
-//! The law of the whole way, as a contract can name it.
+//! The laws of the whole way and of both versions of files, as contracts can name them.
 ghost use Rattle.rx_tool.specs.WholeWay.{WholeWayLaws};
+ghost use Rattle.rx_tool.specs.BothWays.{BothWaysLaws};
 
 use rx_boot::server_key_laws;
 use rx_client::{encrypting_laws, reading_laws};
+use rx_codec::file_laws;
 use rx_crew::keeping_laws;
+use rx_seeded::seeded_file_laws;
 use rx_server::server_laws;
 
 /// What a client encrypts, a server evaluates under the client's server key and the client decrypts, are the
@@ -16,4 +19,12 @@ pub fn whole_way_laws()
     keeping_laws();
     server_laws();
     reading_laws();
+}
+
+/// What `migrate` writes `expand` gives back, and the other way round.
+pub fn both_ways_laws()
+    ensures { BothWaysLaws }
+{
+    file_laws();
+    seeded_file_laws();
 }

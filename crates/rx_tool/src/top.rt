@@ -11,20 +11,22 @@ ghost use Rattle.rx_tool.specs.Outcome.{IsOutcome};
 use crate::bytes::Bytes;
 use crate::command::{Command, parse};
 use crate::commands::{
-    check_set, decrypt_numbers, encrypt_numbers, make_client, make_server, run_net_files,
+    check_set, decrypt_numbers, encrypt_numbers, evaluate_plain, expand_file, make_client,
+    make_files, make_server, migrate_file, run_net_files,
 };
 use crate::engine::{read_all, write_all};
 use crate::outcome::{Done, Output, Stop};
 use rx_client::reading_laws;
 use rx_codec::file_laws;
 use rx_crew::Gate;
+use rx_seeded::seeded_file_laws;
 use rx_store::{Sink, Store, WriteError};
 use std::alloc::Global;
 use std::thread::Threads;
 
 /// Runs the command that the words after the program's name are. The status is 0 where it was done, 2 where
 /// the words are no command, 3 where a read failed, 4 where a write or the printing failed, 11 for want of
-/// memory, and else that of the refusal, 5 to 10. What each says of the files and of what was printed is
+/// memory, and else that of the refusal, 5 to 10 or 12. What each says of the files and of what was printed is
 /// `IsOutcome`, a clause a line. Source: `docs/FORMATS.md`, Reports.
 pub fn tool<R: Threads + Sync, S: Store, K: Sink, G: Gate + Sync>(
     rt: &R,
@@ -42,6 +44,7 @@ pub fn tool<R: Threads + Sync, S: Store, K: Sink, G: Gate + Sync>(
         result }
 {
     file_laws();
+    seeded_file_laws();
     reading_laws();
     let status = run_words(rt, alloc, words, store, sink, gate);
     status
@@ -122,6 +125,14 @@ fn answer<R: Threads + Sync, G: Gate + Sync>(
             rt, alloc, server, net, *workers, out, inputs, files, gate,
         ),
         Command::Decrypt(client, input) => decrypt_numbers(alloc, client, input, files),
+        Command::Plain(circuit, values) => evaluate_plain(alloc, circuit, values, files),
+        Command::Make(number, circuit, values) => {
+            make_files(alloc, *number, circuit, values, files)
+        }
+        Command::Migrate(mask_seed, input, out) => {
+            migrate_file(alloc, mask_seed, input, out, files)
+        }
+        Command::Expand(input, out) => expand_file(alloc, input, out, files),
     }
 }
 

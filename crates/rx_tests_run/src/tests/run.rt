@@ -33,7 +33,7 @@ fn prepared<R: Threads + Sync + AllocGlobal>(rt: &R) -> Result<MemStore, Fail> {
         let _done = printed(rt, line, &mut store)?;
     }
     // A number whose noise tag is 2, and a net that takes it.
-    place_changed(alloc, &mut store, "a2", "loud", 53, 2)?;
+    place_changed(alloc, &mut store, "a2", "loud", 85, 2)?;
     place_changed(alloc, &mut store, "given", "bearing", 12, 2)?;
     Ok(store)
 }
@@ -79,14 +79,17 @@ fn given_blocks_are_not_changed(rt: HostRuntime) -> Result<(), Fail> {
         ("run s bearing 64 noisy loud", 0, "jobs 0\n"),
         ("run s turned 1 cb bc", 0, "jobs 0\n"),
         ("run s both 1 again cb", 0, "jobs 0\n"),
+        ("expand a2 a2whole", 0, ""),
+        ("expand loud loudwhole", 0, ""),
+        ("expand bc bcwhole", 0, ""),
     ];
     assert_eq!(rt; first_wrong(&rt, &mut store, &cases)?, None);
     assert!(rt; has_length(&store, "one", 2110));
     assert!(rt; has_length(&store, "again", 12404));
-    assert!(rt; store.get("one") == store.get("a2"));
-    assert!(rt; store.get("noisy") == store.get("loud"));
-    assert!(rt; store.get("again") == store.get("bc"));
-    assert!(rt; store.get("cb") != store.get("bc"));
+    assert!(rt; store.get("one") == store.get("a2whole"));
+    assert!(rt; store.get("noisy") == store.get("loudwhole"));
+    assert!(rt; store.get("again") == store.get("bcwhole"));
+    assert!(rt; store.get("cb") != store.get("bcwhole"));
     Ok(())
 }
 
@@ -128,6 +131,8 @@ fn each_command_prints_once(rt: HostRuntime) -> Result<(), Fail> {
         "encrypt c U Z v in",
         "run s given 1 o a2",
         "decrypt c a2",
+        "expand a2 whole",
+        "migrate U whole seeded",
     ];
     assert_eq!(rt; first_with_other_prints(&rt, &mut store, &lines)?, None);
     Ok(())
@@ -176,7 +181,7 @@ fn a_board_has_a_limit(rt: HostRuntime) -> Result<(), Fail> {
     store.insert("n", &encode_net(alloc, &bare_net(alloc, 2, 65155)?)?)?;
     assert_eq!(rt; printed(&rt, "client rx-2-2 Z c", &mut store)?.0, 0);
     assert_eq!(rt; printed(&rt, "keygen c U s", &mut store)?.0, 0);
-    assert!(rt; has_length(&store, "s", 1400876));
+    assert!(rt; has_length(&store, "s", 417_868));
     let (answer, sink) = printed(&rt, "run s n 1 o", &mut store)?;
     assert_eq!(rt; answer, 10);
     assert!(rt; was_printed(&sink, "limit board 33554826\n"));

@@ -30,7 +30,7 @@ fn a_server_key_is_written(rt: HostRuntime) -> Result<(), Fail> {
         ("decrypt c s", 5, "malformed s magic\n"),
     ];
     assert_eq!(rt; first_wrong(&rt, &mut store, &cases)?, None);
-    assert!(rt; has_length(&store, "s", 241708));
+    assert!(rt; has_length(&store, "s", 77_900));
     assert!(rt; store.get("t").is_none());
     Ok(())
 }
@@ -61,9 +61,13 @@ fn a_server_file_is_short_wherever_it_is_cut(rt: HostRuntime) -> Result<(), Fail
     store.insert("given", &GIVEN_BACK)?;
     assert_eq!(rt; printed(&rt, "client rx-test Z c", &mut store)?.0, 0);
     assert_eq!(rt; printed(&rt, "keygen c U s", &mut store)?.0, 0);
-    for size in 0..46 {
+    for size in 0..78 {
         place_start(alloc, &mut store, "s", "x", size)?;
-        let need = if size < 44 { size / 4 * 4 + 4 } else { 241708 };
+        let need = match size {
+            0..44 => size / 4 * 4 + 4,
+            44..76 => 76,
+            _ => 77_900,
+        };
         let text = format!(in alloc; "malformed x short {need} {size}\n")?;
         let (answer, sink) = printed(&rt, "run x given 1 o", &mut store)?;
         assert_eq!(rt; answer, 5, "{text}");

@@ -8,9 +8,10 @@ use crate::commands::shared::stop_for;
 use crate::outcome::{Done, Stop};
 use crate::words::Word;
 use rx_client::{DecryptError, decrypt_items};
-use rx_codec::{CodecFault, decode_cipher, decode_client};
+use rx_codec::{CodecFault, decode_client};
 use rx_lwe::SecretKey;
 use rx_report::{damaged, first_difference, malformed_binary, mismatch};
+use rx_seeded::decode_cipher;
 use std::alloc::Global;
 
 /// Decrypts the items of a file of the client's set. It refuses, in this order, a malformed client file, a malformed

@@ -1,10 +1,10 @@
-//! encrypt CLIENT MASKSEED NOISESEED VALUES OUT: writes the ciphertext file of the fresh blocks of all
-//! numbers.
+//! encrypt CLIENT MASKSEED NOISESEED VALUES OUT: writes the seeded ciphertext file of the fresh blocks
+//! of all numbers.
 ghost use Rattle.std.specs.Prelude.{◌≡◌, IfOk, None, length, map};
 ghost use Rattle.rx_params.specs.Acceptance.{Accepts};
 ghost use Rattle.rx_lwe.specs.Secret.{large_key};
 ghost use Rattle.rx_circuit.specs.Values.{AreValues};
-ghost use Rattle.rx_codec.specs.CipherFile.{CipherFile};
+ghost use Rattle.rx_seeded.specs.SeededCipher.{SeededCipher};
 ghost use Rattle.rx_codec.specs.Kept.{AreItemsKept};
 ghost use Rattle.rx_client.specs.Encrypt.{line_digits, first_width, KeepsValues};
 ghost use Rattle.rx_tool.specs.Answers.{Answers};
@@ -55,7 +55,7 @@ pub fn encrypt_numbers(
     Ok(one_file(alloc, out, bytes)?)
 }
 
-/// The ciphertext file of the lines under a client's key.
+/// The seeded ciphertext file of the lines under a client's key.
 fn encrypted(
     alloc: Global,
     keys: &Client,
@@ -66,8 +66,8 @@ fn encrypted(
     requires accepted { Accepts keys.now.params }
     requires values { AreValues lines.now }
     requires widths { first_width keys.now.params.message_bits lines.now ≡ None }
-    ensures file { IfOk result (λ bytes.
-        CipherFile bytes.items (encryption keys.now mask_seed.now noise_seed.now lines.now)) }
+    ensures file { IfOk result (λ bytes. SeededCipher bytes.items mask_seed.now
+        (encryption keys.now mask_seed.now noise_seed.now lines.now)) }
     ensures keeps { IfOk result (λ _.
         KeepsValues keys.now.params (large_key keys.now.params keys.now.seed)
         (encryption keys.now mask_seed.now noise_seed.now lines.now).items lines.now) }

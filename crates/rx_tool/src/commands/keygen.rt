@@ -1,4 +1,4 @@
-//! keygen CLIENT MASKSEED SERVER: writes the server file of a client's key.
+//! keygen CLIENT MASKSEED SERVER: writes the seeded server file of a client's key.
 ghost use Rattle.std.specs.Prelude.{◌≡◌, length};
 ghost use Rattle.rx_tool.specs.Answers.{Answers};
 ghost use Rattle.rx_tool.specs.declared.command.Command.TheVariants.{Keygen};
@@ -7,12 +7,13 @@ use crate::bytes::Bytes;
 use crate::commands::shared::{one_file, stop_for};
 use crate::outcome::{Done, Stop};
 use crate::words::Word;
-use rx_boot::ServerKey;
-use rx_codec::{decode_client, encode_server};
+use rx_boot::{ServerKey, seeded_key_laws};
+use rx_codec::decode_client;
 use rx_report::malformed_binary;
+use rx_seeded::encode_made_server;
 use std::alloc::Global;
 
-/// Makes the server file of a client. It refuses a malformed client file.
+/// Makes the seeded server file of a client. It refuses a malformed client file.
 pub fn make_server(
     alloc: Global,
     client: &Word<'_>,
@@ -28,6 +29,7 @@ pub fn make_server(
         Err(fault) => return Err(stop_for(malformed_binary(alloc, client.as_str(), fault))),
     };
     let key = ServerKey::make(alloc, &keys.params, &keys.seed, mask_seed)?;
-    let bytes = encode_server(alloc, &key)?;
+    seeded_key_laws();
+    let bytes = encode_made_server(alloc, &key, mask_seed)?;
     Ok(one_file(alloc, server, bytes)?)
 }

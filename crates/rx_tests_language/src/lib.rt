@@ -1,0 +1,5 @@
+//! Worked circuits through the whole program, as tests over a store and a sink in memory.
+#![tactic(auto)]
+
+#[cfg(test)]
+mod tests;
