@@ -13,4 +13,4 @@ pub use bitwise::{and, or, xor};
 pub use casts::cast;
 pub use constants::constant;
 pub use inverse::not;
-pub use shifts::{sar, shl, shr};
+pub use shifts::{between_blocks, sar, shl, shr};

@@ -202,7 +202,7 @@ fn lowered_blocks(
 
 /// For each block but the last, the digit that stands so many bits above it: a job over it and the block
 /// above it.
-fn between_blocks(pen: &mut NetPen, part: &[u32], bits: u32) -> Result<Vec<u32>, AllocError>
+pub fn between_blocks(pen: &mut NetPen, part: &[u32], bits: u32) -> Result<Vec<u32>, AllocError>
     requires bits { bits < pen.old.space }
     requires some { 1 ≤ length part.now }
     requires blocks { AreBlocks pen.old part.now }

@@ -1,0 +1,8 @@
+pub mod BitLaws
+pub mod AmountBits
+pub mod SignBlocks
+pub mod Parts
+pub mod Orders
+pub mod Sources
+pub mod Staging
+pub mod Whole
