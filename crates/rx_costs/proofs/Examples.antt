@@ -2,7 +2,7 @@
 use Rattle.std.proofs.Common.{◌≡◌, refl}
 use Rattle.rx_costs.specs.Logs.{log_from, log_up}
 use Rattle.rx_costs.specs.Rounds.{groups, rounds_in, rounds, round_jobs_in, round_jobs}
-use Rattle.rx_costs.specs.Table.{add_jobs, add_depth, mul_jobs, mul_depth, amount_shift_jobs, amount_shift_depth, signed_shift_jobs, equal_depth, compare_depth, extreme_jobs, extreme_depth, cast_jobs}
+use Rattle.rx_costs.specs.Table.{add_jobs, add_depth, mul_jobs, mul_depth, amount_shift_jobs, amount_shift_depth, signed_shift_jobs, equal_depth, compare_depth, extreme_jobs, extreme_depth, cast_jobs, div_jobs, div_depth}
 
 logs : (log_up 2 0 ≡ 0) × (log_up 2 1 ≡ 0) × (log_up 2 2 ≡ 1) × (log_up 2 5 ≡ 3) × (log_up 2 32 ≡ 5) × (log_up 2 33 ≡ 6) × (log_up 5 25 ≡ 2) × (log_up 5 26 ≡ 3)
 unfolding log_from log_up
@@ -31,3 +31,8 @@ comparisons = (refl, refl, refl, refl, refl)
 -- from two blocks to four, and back
 casts : (cast_jobs 2 4 ≡ 2) × (cast_jobs 4 2 ≡ 0)
 casts = (refl, refl)
+
+-- a quotient of 8 bits and of 64, in blocks of two
+quotients : (div_jobs 2 4 ≡ 418) × (div_depth 2 4 ≡ 66) × (div_jobs 2 32 ≡ 29186)
+unfolding log_from log_up
+quotients = (refl, refl, refl)

@@ -92,3 +92,16 @@ cast_jobs given wanted = wanted - given
 
 abbrev pub cast_depth : ℕ
 cast_depth = 1
+
+-- ---- a quotient with its remainder: a step for each bit of the numerator, whose bits, and the blocks of the quotient, take a job each
+abbrev pub div_step_jobs : ℕ → ℕ
+div_step_jobs blocks = 8 * (blocks + 1) - 2 + blocks * log_up 2 (blocks + 1)
+
+abbrev pub div_step_depth : ℕ → ℕ
+div_step_depth blocks = 5 + log_up 2 (blocks + 1)
+
+abbrev pub div_jobs : ℕ → ℕ → ℕ
+div_jobs message_bits blocks = message_bits * blocks * div_step_jobs blocks + message_bits * blocks + 2 * blocks + 2
+
+abbrev pub div_depth : ℕ → ℕ → ℕ
+div_depth message_bits blocks = message_bits * blocks * div_step_depth blocks + 2

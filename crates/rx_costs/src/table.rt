@@ -1,6 +1,6 @@
 //! The cost table, row by row. A number has 1 to 64 blocks; a block has 2 or 3 message bits, which are its `space`.
 ghost use Rattle.std.specs.Prelude.{◌≡◌, ◌≤◌, ◌⊎◌, ◌^◌, ◌+◌, ◌*◌};
-ghost use Rattle.rx_costs.specs.Table.{row, add_depth, add_jobs, amount_shift_depth, amount_shift_jobs, bitwise_depth, bitwise_jobs, cast_depth, cast_jobs, compare_depth, compare_jobs, constant_depth, constant_jobs, equal_depth, equal_jobs, extreme_depth, extreme_jobs, mul_depth, mul_jobs, select_depth, select_jobs, shift_depth, shift_jobs, signed_shift_depth, signed_shift_jobs};
+ghost use Rattle.rx_costs.specs.Table.{row, add_depth, add_jobs, amount_shift_depth, amount_shift_jobs, bitwise_depth, bitwise_jobs, cast_depth, cast_jobs, compare_depth, compare_jobs, constant_depth, constant_jobs, div_depth, div_jobs, div_step_depth, div_step_jobs, equal_depth, equal_jobs, extreme_depth, extreme_jobs, mul_depth, mul_jobs, select_depth, select_jobs, shift_depth, shift_jobs, signed_shift_depth, signed_shift_jobs};
 
 use crate::counts::{log_up, round_jobs, rounds};
 use rx_params::noise_limit;
@@ -65,6 +65,39 @@ impl Cost {
         Cost {
             jobs: pairs + round_jobs(blocks, most, terms) + sum.jobs,
             depth: 3 + rounds(most, terms) + levels,
+        }
+    }
+
+    /// A quotient with its remainder.
+    pub fn div(space: u32, blocks: u32) -> Cost
+        requires space { (space ≡ 2) ⊎ (space ≡ 3) }
+        requires some { 1 ≤ blocks }
+        requires few { blocks ≤ 64 }
+        ensures value { result ≡ row (div_jobs space blocks) (div_depth space blocks) }
+        ensures few { result.jobs ≤ 2 ^ 19 }
+        ensures shallow { result.depth ≤ 2 ^ 13 }
+    {
+        let step = Cost::div_step(blocks);
+        let bits = space * blocks;
+        Cost {
+            jobs: u64::from(bits) * step.jobs + u64::from(bits) + 2 * u64::from(blocks) + 2,
+            depth: bits * step.depth + 2,
+        }
+    }
+
+    /// A step of it, for one bit of the numerator.
+    fn div_step(blocks: u32) -> Cost
+        requires some { 1 ≤ blocks }
+        requires few { blocks ≤ 64 }
+        ensures value { result ≡ row (div_step_jobs blocks) (div_step_depth blocks) }
+        ensures few { result.jobs ≤ 2566 }
+        ensures shallow { result.depth ≤ 37 }
+    {
+        let levels = log_up(2, blocks + 1);
+        let blocks = u64::from(blocks);
+        Cost {
+            jobs: 8 * (blocks + 1) - 2 + blocks * u64::from(levels),
+            depth: 5 + levels,
         }
     }
 

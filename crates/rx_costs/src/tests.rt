@@ -20,6 +20,18 @@ fn a_product_of_32_blocks(rt: HostRuntime) {
 }
 
 #[test]
+fn a_quotient_of_8_bits_and_of_64(rt: HostRuntime) {
+    assert_eq!(rt;
+        Cost::div(2, 4),
+        Cost {
+            jobs: 418,
+            depth: 66
+        }
+    );
+    assert_eq!(rt; Cost::div(2, 32).jobs, 29_186);
+}
+
+#[test]
 fn logarithms(rt: HostRuntime) {
     assert_eq!(rt; log_up(2, 1), 0);
     assert_eq!(rt; log_up(2, 33), 6);

@@ -21,7 +21,7 @@ use Rattle.rx_text.proofs.Splits.{line_text}
 use Rattle.rx_params.specs.Kinds.{is_form}
 use Rattle.rx_params.specs.declared.kind.Kind.TheVariants.{Int as WholeNumber}
 use Rattle.rx_language.specs.declared.word.Word.{Word}
-use Rattle.rx_language.specs.declared.word.Word.TheVariants.{In, Inw, Ins, Inbit, Const, Constw, Add, Sub, Mul, Neg, And, Or, Xor, Not, Shl, Shr, Shlv, Shrv, Eq, Ne, Lt, Le, Gt, Ge, Select, Min, Max, Cast, Casts, Out}
+use Rattle.rx_language.specs.declared.word.Word.TheVariants.{In, Inw, Ins, Inbit, Const, Constw, Add, Sub, Mul, Div, Rem, Neg, And, Or, Xor, Not, Shl, Shr, Shlv, Shrv, Eq, Ne, Lt, Le, Gt, Ge, Select, Min, Max, Cast, Casts, Out}
 use Rattle.rx_language.specs.declared.form.Tail.{Tail}
 use Rattle.rx_language.specs.declared.form.Tail.TheVariants.{Nothing, Constant, Amount}
 use Rattle.rx_language.specs.declared.line.Line.{Line}
@@ -160,6 +160,8 @@ spelling_is_word Constw = plain (codes "constw") refl refl
 spelling_is_word Add = plain (codes "add") refl refl
 spelling_is_word Sub = plain (codes "sub") refl refl
 spelling_is_word Mul = plain (codes "mul") refl refl
+spelling_is_word Div = plain (codes "div") refl refl
+spelling_is_word Rem = plain (codes "rem") refl refl
 spelling_is_word Neg = plain (codes "neg") refl refl
 spelling_is_word And = plain (codes "and") refl refl
 spelling_is_word Or = plain (codes "or") refl refl

@@ -13,7 +13,7 @@ use Rattle.rx_text.specs.declared.fault.LineCause.{LineCause}
 use Rattle.rx_text.specs.declared.numeral.Numeral.{Numeral}
 use Rattle.rx_text.specs.declared.numeral.Numeral.TheVariants.{Word as Held, Beyond}
 use Rattle.rx_language.specs.declared.word.Word.{Word}
-use Rattle.rx_language.specs.declared.word.Word.TheVariants.{In, Inw, Ins, Inbit, Const, Constw, Add, Sub, Mul, Neg, And, Or, Xor, Not, Shl, Shr, Shlv, Shrv, Eq, Ne, Lt, Le, Gt, Ge, Select, Min, Max, Cast, Casts, Out}
+use Rattle.rx_language.specs.declared.word.Word.TheVariants.{In, Inw, Ins, Inbit, Const, Constw, Add, Sub, Mul, Div, Rem, Neg, And, Or, Xor, Not, Shl, Shr, Shlv, Shrv, Eq, Ne, Lt, Le, Gt, Ge, Select, Min, Max, Cast, Casts, Out}
 use Rattle.rx_language.specs.declared.form.Tail.{Tail}
 use Rattle.rx_language.specs.declared.form.Tail.TheVariants.{Nothing, Constant, Amount}
 use Rattle.rx_language.specs.declared.spelled.Spelled.{Spelled}
@@ -80,6 +80,8 @@ word_back Constw = refl
 word_back Add = refl
 word_back Sub = refl
 word_back Mul = refl
+word_back Div = refl
+word_back Rem = refl
 word_back Neg = refl
 word_back And = refl
 word_back Or = refl

@@ -3,12 +3,12 @@ use Rattle.std.specs.Prelude.{ℕ, Bool, true, false, List, [], ◌∷◌, codes
 use Rattle.std.specs.Str.{bytes_eq}
 use Rattle.std.specs.List.{find}
 use Rattle.rx_language.specs.declared.word.Word.{Word}
-use Rattle.rx_language.specs.declared.word.Word.TheVariants.{In, Inw, Ins, Inbit, Const, Constw, Add, Sub, Mul, Neg, And, Or, Xor, Not, Shl, Shr, Shlv, Shrv, Eq, Ne, Lt, Le, Gt, Ge, Select, Min, Max, Cast, Casts, Out}
+use Rattle.rx_language.specs.declared.word.Word.TheVariants.{In, Inw, Ins, Inbit, Const, Constw, Add, Sub, Mul, Div, Rem, Neg, And, Or, Xor, Not, Shl, Shr, Shlv, Shrv, Eq, Ne, Lt, Le, Gt, Ge, Select, Min, Max, Cast, Casts, Out}
 use Rattle.rx_language.specs.declared.form.Form.{Form}
 use Rattle.rx_language.specs.declared.form.Tail.{Tail}
 use Rattle.rx_language.specs.declared.form.Tail.TheVariants.{Nothing, Constant, Amount}
 use Rattle.rx_language.specs.declared.form.Rule.{Rule}
-use Rattle.rx_language.specs.declared.form.Rule.TheVariants.{GivesInt, GivesSint, GivesBit, OneNumber, TwoNumbers, OneOfAny, TwoAlike, NumberAndAmount, Compared, Chosen, CastInt, CastSint}
+use Rattle.rx_language.specs.declared.form.Rule.TheVariants.{GivesInt, GivesSint, GivesBit, OneNumber, TwoNumbers, TwoInts, OneOfAny, TwoAlike, NumberAndAmount, Compared, Chosen, CastInt, CastSint}
 
 -- how a word is written
 abbrev pub spelling : Word → List ℕ
@@ -21,6 +21,8 @@ spelling Constw = codes "constw"
 spelling Add = codes "add"
 spelling Sub = codes "sub"
 spelling Mul = codes "mul"
+spelling Div = codes "div"
+spelling Rem = codes "rem"
 spelling Neg = codes "neg"
 spelling And = codes "and"
 spelling Or = codes "or"
@@ -45,7 +47,7 @@ spelling Out = codes "out"
 
 abbrev pub every_word : List Word
 every_word =
-    In ∷ Inw ∷ Ins ∷ Inbit ∷ Const ∷ Constw ∷ Add ∷ Sub ∷ Mul ∷ Neg ∷ And ∷ Or ∷ Xor ∷ Not ∷ Shl ∷ Shr ∷ Shlv ∷ Shrv ∷ Eq ∷ Ne ∷ Lt ∷ Le ∷ Gt ∷ Ge ∷ Select ∷ Min ∷ Max ∷ Cast ∷ Casts ∷ Out ∷ []
+    In ∷ Inw ∷ Ins ∷ Inbit ∷ Const ∷ Constw ∷ Add ∷ Sub ∷ Mul ∷ Div ∷ Rem ∷ Neg ∷ And ∷ Or ∷ Xor ∷ Not ∷ Shl ∷ Shr ∷ Shlv ∷ Shrv ∷ Eq ∷ Ne ∷ Lt ∷ Le ∷ Gt ∷ Ge ∷ Select ∷ Min ∷ Max ∷ Cast ∷ Casts ∷ Out ∷ []
 
 -- the word that a text is, none where it is none
 abbrev pub word_of : List ℕ → Option Word
@@ -66,6 +68,8 @@ form Constw = row true 0 Constant GivesInt
 form Add = row false 2 Nothing TwoNumbers
 form Sub = row false 2 Nothing TwoNumbers
 form Mul = row false 2 Nothing TwoNumbers
+form Div = row false 2 Nothing TwoInts
+form Rem = row false 2 Nothing TwoInts
 form Neg = row false 1 Nothing OneNumber
 form And = row false 2 Nothing TwoAlike
 form Or = row false 2 Nothing TwoAlike

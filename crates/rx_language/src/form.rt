@@ -42,6 +42,8 @@ pub enum Rule {
     OneNumber,
     /// Two numbers of one kind; their kind.
     TwoNumbers,
+    /// Two Ints of one width; their kind.
+    TwoInts,
     /// One argument; its kind.
     OneOfAny,
     /// Two arguments of one kind; their kind.
@@ -70,6 +72,7 @@ impl Rule {
             (Rule::GivesBit, []) => Some(NameKind::Bit),
             (Rule::OneNumber, [a]) => only_if(a.is_number(), *a),
             (Rule::TwoNumbers, [a, b]) => only_if(a.are_numbers(*b), *a),
+            (Rule::TwoInts, [a, b]) => only_if(a.are_ints(*b), *a),
             (Rule::OneOfAny, [a]) => Some(*a),
             (Rule::TwoAlike, [a, b]) => only_if(a.is_same(*b), *a),
             (Rule::NumberAndAmount, [a, b]) => only_if(a.is_shifted_by(*b), *a),

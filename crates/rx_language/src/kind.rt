@@ -1,6 +1,6 @@
 //! The kinds of the names of a circuit.
 ghost use Rattle.std.specs.Prelude.{◌≡◌, ◌&&◌};
-ghost use Rattle.rx_language.specs.Kinds.{bits_of, is_number, same_kind, are_numbers};
+ghost use Rattle.rx_language.specs.Kinds.{bits_of, is_number, same_kind, are_numbers, are_ints};
 ghost use Rattle.rx_language.specs.declared.kind.NameKind.TheVariants.{Int};
 
 /// The kind of a name of a circuit. A width is a multiple of the message bits, from one block to 64 bits.
@@ -51,6 +51,16 @@ impl NameKind {
         ensures { result ≡ are_numbers self other }
     {
         self.is_number() && self.is_same(other)
+    }
+
+    /// Whether the two are Ints of one width.
+    pub(crate) fn are_ints(self, other: NameKind) -> bool
+        ensures { result ≡ are_ints self other }
+    {
+        match (self, other) {
+            (NameKind::Int(a), NameKind::Int(b)) => a == b,
+            _ => false,
+        }
     }
 
     /// Whether it is a number, and the other an Int of its width.

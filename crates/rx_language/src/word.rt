@@ -25,6 +25,10 @@ pub enum Word {
     Sub,
     /// `mul R a b`: the product.
     Mul,
+    /// `div R a b`: how often b goes into a; all ones where b is 0.
+    Div,
+    /// `rem R a b`: what a leaves by b; a where b is 0.
+    Rem,
     /// `neg R a`: 0 less a.
     Neg,
     /// `and R a b`: both, bit by bit.
@@ -70,7 +74,7 @@ pub enum Word {
 }
 
 /// Each word once.
-const EVERY_WORD: [Word; 30] = [
+const EVERY_WORD: [Word; 32] = [
     Word::In,
     Word::Inw,
     Word::Ins,
@@ -80,6 +84,8 @@ const EVERY_WORD: [Word; 30] = [
     Word::Add,
     Word::Sub,
     Word::Mul,
+    Word::Div,
+    Word::Rem,
     Word::Neg,
     Word::And,
     Word::Or,
@@ -128,6 +134,8 @@ impl Word {
             Word::Add => "add",
             Word::Sub => "sub",
             Word::Mul => "mul",
+            Word::Div => "div",
+            Word::Rem => "rem",
             Word::Neg => "neg",
             Word::And => "and",
             Word::Or => "or",
@@ -169,6 +177,7 @@ impl Word {
                 Tail::Nothing,
                 Rule::TwoNumbers,
             ),
+            Word::Div | Word::Rem => row(false, 2, Tail::Nothing, Rule::TwoInts),
             Word::Neg => row(false, 1, Tail::Nothing, Rule::OneNumber),
             Word::And | Word::Or | Word::Xor => row(false, 2, Tail::Nothing, Rule::TwoAlike),
             Word::Not => row(false, 1, Tail::Nothing, Rule::OneOfAny),

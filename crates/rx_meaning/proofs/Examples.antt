@@ -2,8 +2,9 @@
 use Rattle.std.proofs.Common.{◌≡◌, ℕ, ◌+◌, ◌*◌, List, [], ◌∷◌, refl}
 use Rattle.std.specs.Prelude.{codes}
 use Rattle.rx_residue.specs.Residues.{residue, signed}
+use Rattle.rx_residue.specs.Division.{quotient, remainder}
 use Rattle.rx_language.specs.declared.word.Word.{Word}
-use Rattle.rx_language.specs.declared.word.Word.TheVariants.{In, Ins, Add, Out, Sub, Mul, Neg, And, Or, Xor, Not, Shl, Shr, Shlv, Shrv, Eq, Ne, Lt, Le, Gt, Ge, Select, Min, Max, Cast, Casts}
+use Rattle.rx_language.specs.declared.word.Word.TheVariants.{In, Ins, Add, Out, Sub, Mul, Div, Rem, Neg, And, Or, Xor, Not, Shl, Shr, Shlv, Shrv, Eq, Ne, Lt, Le, Gt, Ge, Select, Min, Max, Cast, Casts}
 use Rattle.rx_language.specs.declared.kind.NameKind.TheVariants.{Int, Sint, Bit}
 use Rattle.rx_costs.specs.declared.table.Cost.{Cost}
 use Rattle.rx_costs.specs.Logs.{log_from, log_up}
@@ -39,6 +40,10 @@ four word given x y = residue 4 (given_by word given (sint x) (sint y) (bit 0))
 arithmetic : (eight Sub 0 0 1 ≡ 255) × (eight Neg 0 0 0 ≡ 0) × (eight Mul 0 15 17 ≡ 255) × (eight Mul 0 16 16 ≡ 0) × (eight Mul 0 15 15 ≡ 225)
 unfolding residue given_by
 arithmetic = (refl, refl, refl, refl, refl)
+
+divisions : (eight Div 0 200 7 ≡ 28) × (eight Rem 0 200 7 ≡ 4) × (eight Div 0 5 0 ≡ 255) × (eight Rem 0 5 0 ≡ 5) × (eight Div 0 0 3 ≡ 0) × (eight Div 0 255 255 ≡ 1) × (eight Rem 0 255 255 ≡ 0)
+unfolding residue given_by quotient remainder
+divisions = (refl, refl, refl, refl, refl, refl, refl)
 
 bits : (eight And 0 204 170 ≡ 136) × (eight Or 0 204 170 ≡ 238) × (eight Xor 0 204 170 ≡ 102) × (eight Not 0 0 0 ≡ 255) × (residue 1 (given_by Not 0 (bit 0) (bit 0) (bit 0)) ≡ 1)
 unfolding residue given_by
@@ -108,6 +113,14 @@ long = cost_by Mul 2 (Int 64) (Int 64)
 long_bounds : (long.jobs ≡ 2842) × (long.depth ≡ 13) × (23 * long.jobs ≡ 65366) × (24 * long.jobs ≡ 68208)
 unfolding cost_by log_from log_up groups rounds_in rounds round_jobs_in round_jobs
 long_bounds = (refl, refl, refl, refl)
+
+-- a quotient of 64 bits, of which a circuit may have two
+abbrev longest : Cost
+longest = cost_by Div 2 (Int 64) (Int 64)
+
+longest_bounds : (longest.jobs ≡ 29186) × (2 * longest.jobs ≡ 58372) × (3 * longest.jobs ≡ 87558)
+unfolding cost_by log_from log_up
+longest_bounds = (refl, refl, refl)
 
 -- a shift of a number with a sign by an encrypted amount takes more
 signed_costs : (cost_by Shrv 2 (Sint 8) (Sint 8) ≡ row (3 + 4 * 4 * 3 + 4 * 4 + 2) 10) × (cost_by Shrv 2 (Int 8) (Int 8) ≡ row (3 + 4 * 4 * 3 + 2 * 4 + 1) 8) × (cost_by And 2 Bit Bit ≡ row 1 1) × (cost_by Cast 3 (Int 9) Bit ≡ row 2 1)

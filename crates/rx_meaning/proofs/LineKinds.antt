@@ -7,13 +7,13 @@ use Rattle.std.proofs.lemmas.List.{get_or_append_left, get_or_past, get_or_push,
 use Rattle.rx_params.specs.Kinds.{is_form}
 use Rattle.rx_params.specs.declared.kind.Kind.TheVariants.{Int as WholeNumber}
 use Rattle.rx_language.specs.declared.form.Rule.{Rule}
-use Rattle.rx_language.specs.declared.form.Rule.TheVariants.{GivesInt, GivesSint, GivesBit, OneNumber, TwoNumbers, OneOfAny, TwoAlike, NumberAndAmount, Compared, Chosen, CastInt, CastSint}
+use Rattle.rx_language.specs.declared.form.Rule.TheVariants.{GivesInt, GivesSint, GivesBit, OneNumber, TwoNumbers, TwoInts, OneOfAny, TwoAlike, NumberAndAmount, Compared, Chosen, CastInt, CastSint}
 use Rattle.rx_language.specs.declared.kind.NameKind.{NameKind}
 use Rattle.rx_language.specs.declared.kind.NameKind.TheVariants.{Int, Sint, Bit}
 use Rattle.rx_language.specs.declared.line.Line.{Line}
 use Rattle.rx_language.specs.declared.line.Step.{Step}
 use Rattle.rx_language.specs.Words.{form}
-use Rattle.rx_language.specs.Kinds.{bits_of, is_number, same_kind, are_numbers, kind_by}
+use Rattle.rx_language.specs.Kinds.{bits_of, is_number, same_kind, are_numbers, are_ints, kind_by}
 use Rattle.rx_language.specs.Programs.{Program, no_step, kind_at, place_of, asked, width_or, line_width, is_stated, step_after, steps_by, steps_of, AreLawful, IsProgram}
 use Rattle.rx_language.proofs.Steps.{regrouped, by-push}
 use Rattle.rx_meaning.specs.Kinds.{is_kind, AreKinds}
@@ -40,6 +40,10 @@ rule_kind space TwoNumbers width [] w h = refl
 rule_kind space TwoNumbers width (a ∷ []) w h = refl
 rule_kind space TwoNumbers width (a ∷ b ∷ []) w h = given_if space (are_numbers a b) a h.0
 rule_kind space TwoNumbers width (a ∷ b ∷ c ∷ kinds) w h = refl
+rule_kind space TwoInts width [] w h = refl
+rule_kind space TwoInts width (a ∷ []) w h = refl
+rule_kind space TwoInts width (a ∷ b ∷ []) w h = given_if space (are_ints a b) a h.0
+rule_kind space TwoInts width (a ∷ b ∷ c ∷ kinds) w h = refl
 rule_kind space OneOfAny width [] w h = refl
 rule_kind space OneOfAny width (a ∷ []) w h = h.0
 rule_kind space OneOfAny width (a ∷ b ∷ kinds) w h = refl

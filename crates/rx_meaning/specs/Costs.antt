@@ -2,9 +2,9 @@
 use Rattle.std.specs.Prelude.{ℕ, ◌/◌}
 use Rattle.rx_costs.specs.declared.table.Cost.{Cost}
 use Rattle.rx_costs.specs.Logs.{log_up}
-use Rattle.rx_costs.specs.Table.{row, constant_jobs, constant_depth, add_jobs, add_depth, mul_jobs, mul_depth, bitwise_jobs, bitwise_depth, shift_jobs, shift_depth, amount_shift_jobs, amount_shift_depth, signed_shift_jobs, signed_shift_depth, equal_jobs, equal_depth, compare_jobs, compare_depth, select_jobs, select_depth, extreme_jobs, extreme_depth, cast_jobs, cast_depth}
+use Rattle.rx_costs.specs.Table.{row, constant_jobs, constant_depth, add_jobs, add_depth, mul_jobs, mul_depth, div_jobs, div_depth, bitwise_jobs, bitwise_depth, shift_jobs, shift_depth, amount_shift_jobs, amount_shift_depth, signed_shift_jobs, signed_shift_depth, equal_jobs, equal_depth, compare_jobs, compare_depth, select_jobs, select_depth, extreme_jobs, extreme_depth, cast_jobs, cast_depth}
 use Rattle.rx_language.specs.declared.word.Word.{Word}
-use Rattle.rx_language.specs.declared.word.Word.TheVariants.{In, Inw, Ins, Inbit, Const, Constw, Add, Sub, Mul, Neg, And, Or, Xor, Not, Shl, Shr, Shlv, Shrv, Eq, Ne, Lt, Le, Gt, Ge, Select, Min, Max, Cast, Casts, Out}
+use Rattle.rx_language.specs.declared.word.Word.TheVariants.{In, Inw, Ins, Inbit, Const, Constw, Add, Sub, Mul, Div, Rem, Neg, And, Or, Xor, Not, Shl, Shr, Shlv, Shrv, Eq, Ne, Lt, Le, Gt, Ge, Select, Min, Max, Cast, Casts, Out}
 use Rattle.rx_language.specs.declared.kind.NameKind.{NameKind}
 use Rattle.rx_language.specs.declared.kind.NameKind.TheVariants.{Int, Sint, Bit}
 use Rattle.rx_language.specs.Kinds.{bits_of}
@@ -63,6 +63,8 @@ cost_by Constw space kind first = row (constant_jobs (blocks_of space kind)) con
 cost_by Add space kind first = add (blocks_of space kind)
 cost_by Sub space kind first = add (blocks_of space kind)
 cost_by Mul space kind first = row (mul_jobs space (blocks_of space kind)) (mul_depth space (blocks_of space kind))
+cost_by Div space kind first = row (div_jobs space (blocks_of space kind)) (div_depth space (blocks_of space kind))
+cost_by Rem space kind first = row (div_jobs space (blocks_of space kind)) (div_depth space (blocks_of space kind))
 cost_by Neg space kind first = add (blocks_of space kind)
 cost_by And space kind first = bitwise (blocks_of space kind)
 cost_by Or space kind first = bitwise (blocks_of space kind)

@@ -3,8 +3,9 @@ use Rattle.std.specs.Prelude.{ℕ, ◌<◌, ◌≤◌, ◌-◌, ◌*◌, ◌^◌
 use Rattle.std.specs.Int.{int_div_euclid, int_min, int_max}
 use Rattle.std.specs.Ordering.{int_eq}
 use Rattle.rx_residue.specs.Residues.{signed}
+use Rattle.rx_residue.specs.Division.{quotient, remainder}
 use Rattle.rx_language.specs.declared.word.Word.{Word}
-use Rattle.rx_language.specs.declared.word.Word.TheVariants.{In, Inw, Ins, Inbit, Const, Constw, Add, Sub, Mul, Neg, And, Or, Xor, Not, Shl, Shr, Shlv, Shrv, Eq, Ne, Lt, Le, Gt, Ge, Select, Min, Max, Cast, Casts, Out}
+use Rattle.rx_language.specs.declared.word.Word.TheVariants.{In, Inw, Ins, Inbit, Const, Constw, Add, Sub, Mul, Div, Rem, Neg, And, Or, Xor, Not, Shl, Shr, Shlv, Shrv, Eq, Ne, Lt, Le, Gt, Ge, Select, Min, Max, Cast, Casts, Out}
 use Rattle.rx_language.specs.declared.kind.NameKind.{NameKind}
 use Rattle.rx_language.specs.declared.kind.NameKind.TheVariants.{Int, Sint, Bit}
 use Rattle.rx_language.specs.Kinds.{bits_of}
@@ -45,6 +46,8 @@ given_by Constw given a b c = pos given
 given_by Add given a b c = pos a.value +ℤ pos b.value
 given_by Sub given a b c = pos a.value -ℤ pos b.value
 given_by Mul given a b c = pos a.value *ℤ pos b.value
+given_by Div given a b c = pos (quotient (bits_of a.kind) a.value b.value)
+given_by Rem given a b c = pos (remainder a.value b.value)
 given_by Neg given a b c = neg_ℤ (pos a.value)
 given_by And given a b c = pos (bit_and a.value b.value)
 given_by Or given a b c = pos (bit_or a.value b.value)

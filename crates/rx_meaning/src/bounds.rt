@@ -64,7 +64,7 @@ fn cost_of(space: u32, steps: &[Step], line: &Line, step: &Step) -> Cost
     requires kind { IsTrue (is_kind space step.now.kind) }
     ensures value { result ≡ cost_of space steps.now line.now step.now }
     ensures few { result.jobs ≤ 2 ^ 34 }
-    ensures shallow { result.depth ≤ 2 ^ 8 }
+    ensures shallow { result.depth ≤ 2 ^ 13 }
 {
     let first = match step.sources.as_slice().first() {
         Some(place) => kind_at(steps, *place),
@@ -86,7 +86,7 @@ fn kind_at(steps: &[Step], place: usize) -> NameKind
 /// The depth of a line: its own, and the greatest of its arguments.
 fn depth_after(before: &[u32], cost: Cost, step: &Step) -> u32
     requires below { (k : ℕ) → slice_index before.now k ≤ 2 ^ 30 }
-    requires shallow { cost.depth ≤ 2 ^ 8 }
+    requires shallow { cost.depth ≤ 2 ^ 13 }
     ensures { result ≡ depth_after before.now cost step.now }
 {
     cost.depth + greatest_at(before, step.sources.as_slice())

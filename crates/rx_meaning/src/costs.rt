@@ -14,7 +14,7 @@ pub(crate) fn cost_by(word: Word, space: u32, kind: NameKind, first: NameKind) -
     requires first { IsTrue (is_kind space first) }
     ensures value { result ≡ cost_by word space kind first }
     ensures few { result.jobs ≤ 2 ^ 34 }
-    ensures shallow { result.depth ≤ 2 ^ 8 }
+    ensures shallow { result.depth ≤ 2 ^ 13 }
 {
     let blocks = blocks_of(space, kind);
     let compared = blocks_of(space, first);
@@ -23,6 +23,7 @@ pub(crate) fn cost_by(word: Word, space: u32, kind: NameKind, first: NameKind) -
         Word::Const | Word::Constw => Cost::constant(blocks),
         Word::Add | Word::Sub | Word::Neg => Cost::add(blocks),
         Word::Mul => Cost::mul(space, blocks),
+        Word::Div | Word::Rem => Cost::div(space, blocks),
         Word::And | Word::Or | Word::Xor | Word::Not => Cost::bitwise(blocks),
         Word::Shl | Word::Shr => Cost::shift(blocks),
         Word::Shlv => Cost::amount_shift(amount_bits(kind), blocks),

@@ -2,8 +2,9 @@
 ghost use Rattle.std.specs.Prelude.{◌≡◌, ◌≤◌, ◌^◌, ◌-◌, ◌*◌, ◌==◌, if◌then◌else◌, ◌*ℤ◌, pos, negsuc, ◌≤ℤ◌, ◌<ℤ◌};
 ghost use Rattle.std.specs.Int.{int_div_euclid};
 ghost use Rattle.rx_residue.specs.Residues.{residue};
+ghost use Rattle.rx_residue.specs.Division.{quotient, remainder};
 ghost use Rattle.rx_language.specs.Kinds.{bits_of};
-ghost use Rattle.rx_meaning.specs.Operations.{number_of, truth, given_by, IsHeld};
+ghost use Rattle.rx_meaning.specs.Operations.{number_of, truth, given_by, HasBits, IsHeld};
 
 use crate::operand::Operand;
 use rx_language::{NameKind, Word};
@@ -26,6 +27,8 @@ pub(crate) fn operate(word: Word, given: u64, width: u32, a: Operand, b: Operand
         Word::Add => residue(width, i128::from(a.value) + i128::from(b.value)),
         Word::Sub => residue(width, i128::from(a.value) - i128::from(b.value)),
         Word::Mul => product(width, a.value, b.value),
+        Word::Div => reduced(width, u128::from(quotient(a, b))),
+        Word::Rem => reduced(width, u128::from(remainder(a.value, b.value))),
         Word::Neg => residue(width, -i128::from(a.value)),
         Word::And => reduced(width, u128::from(a.value & b.value)),
         Word::Or => reduced(width, u128::from(a.value | b.value)),
@@ -85,13 +88,41 @@ fn product(width: u32, a: u64, b: u64) -> u64
     reduced(width, u128::from(a) * u128::from(b))
 }
 
+/// How often the second goes into the first; where it is 0, all bits of the kind of the first are 1.
+#[tactic(auto, unfolding(rx_residue::specs::Division::quotient))]
+fn quotient(a: Operand, b: Operand) -> u64
+    requires { IsHeld a }
+    ensures { result ≡ quotient (bits_of a.kind) a.value b.value }
+{
+    if b.value == 0 {
+        all_ones(a.kind)
+    } else {
+        a.value / b.value
+    }
+}
+
+/// What the first leaves by the second; the first where that is 0.
+#[tactic(auto, unfolding(rx_residue::specs::Division::remainder))]
+fn remainder(a: u64, b: u64) -> u64
+    ensures { result ≡ remainder a b }
+{
+    if b == 0 { a } else { a % b }
+}
+
 /// All bits turned, as many as the kind has.
 fn complement(a: Operand) -> u64
     requires { IsHeld a }
     ensures { result ≡ 2 ^ bits_of a.kind - 1 - a.value }
 {
-    let greatest = u64::MAX >> (64 - a.kind.bits());
-    greatest - a.value
+    all_ones(a.kind) - a.value
+}
+
+/// The value of which each bit is 1, as many as the kind has.
+fn all_ones(kind: NameKind) -> u64
+    requires { HasBits kind }
+    ensures { result ≡ 2 ^ bits_of kind - 1 }
+{
+    u64::MAX >> (64 - kind.bits())
 }
 
 /// The number times two to the amount, modulo two to the width.

@@ -1,9 +1,10 @@
-//! Numbers modulo two to a width, and the numbers with a sign that they stand for in two's complement.
+//! Numbers modulo two to a width, the numbers with a sign that they stand for in two's complement, and their
+//! quotients.
 #![tactic(auto)]
 
 ghost use Rattle.std.specs.Prelude.{◌≡◌, ◌≤◌, ◌<◌, ◌^◌, ◌-◌, pos, negsuc, ◌≤ℤ◌, ◌<ℤ◌};
 ghost use Rattle.rx_residue.specs.Residues.{residue, signed};
-ghost use Rattle.rx_residue.specs.Laws.{ResidueLaws, SignedLaws};
+ghost use Rattle.rx_residue.specs.Laws.{DivisionLaws, ResidueLaws, SignedLaws};
 
 #[cfg(test)]
 mod tests;
@@ -16,6 +17,12 @@ pub fn residue_laws()
 /// A residue stands for one number with a sign, from minus half of two to the width to below half.
 pub fn signed_laws()
     ensures { SignedLaws }
+{}
+
+/// A number is its quotient by another number times this one, and the remainder, which is less than
+/// it.
+pub fn division_laws()
+    ensures { DivisionLaws }
 {}
 
 /// The residue of a number modulo two to the width, which is at most 64.

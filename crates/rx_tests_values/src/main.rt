@@ -114,6 +114,10 @@ cast s2 60 a
 casts s3 60 a
 cast s4 # c
 casts s5 # c
+cast whole @ a
+cast by @ b
+div t0 whole by
+rem t1 whole by
 out e
 out o0
 out o1
@@ -152,6 +156,8 @@ out s2
 out s3
 out s4
 out s5
+out t0
+out t1
 out three
 out two
 out a

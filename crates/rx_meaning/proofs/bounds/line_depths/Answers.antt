@@ -27,15 +27,15 @@ loop-place-preserved c =
     let g : d ≡ depth_after done (cost_of space all x s) s = own ∙ ap (λ cost. depth_after done cost s) c.cost_of-cost.ensures.value in
     let m = depths_more space all done c.args.lines.now all place x s d c.loop-place-test.true within c.index-lines-place.is c.index-steps-place.is g in
     let items : c.push.new.self.items ≡ done ++ d ∷ [] = c.in_ok-push.ensures.items in
-    let deep : greatest_at done s.sources ≤ 256 * place = greatest_below done (256 * place) h.below s.sources in
-    let near : d ≤ 256 * (place + 1) = omega (arith, own, deep, c.cost_of-cost.ensures.shallow) in
+    let deep : greatest_at done s.sources ≤ 8192 * place = greatest_below done (8192 * place) h.below s.sources in
+    let near : d ≤ 8192 * (place + 1) = omega (arith, own, deep, c.cost_of-cost.ensures.shallow) in
     record {
       whole =
           ap (λ depths. depths ++ depths_from depths (costs_of space all lines steps) steps) items
           ∙ sym m
           ∙ h.whole;
-      below = λ k. subst (λ (depths : List ℕ). get_or depths k 0 ≤ 256 * (place + 1)) (sym items)
-          (below_push done d (256 * place) (256 * (place + 1)) h.below (omega arith) near k);
+      below = λ k. subst (λ (depths : List ℕ). get_or depths k 0 ≤ 8192 * (place + 1)) (sym items)
+          (below_push done d (8192 * place) (8192 * (place + 1)) h.below (omega arith) near k);
     }
 
 pub returns : goal.returns
