@@ -4,9 +4,13 @@
 
 #[cfg(test)]
 mod clear;
+#[cfg(test)]
+mod division;
 mod operands;
 #[cfg(test)]
 mod orders;
+#[cfg(test)]
+mod shifts;
 #[cfg(test)]
 mod tests;
 
