@@ -1,0 +1,5 @@
+pub mod Compiled
+pub mod Faults
+pub mod Realized
+pub mod Arms
+pub mod States
