@@ -49,6 +49,10 @@ fn operations(alloc: Global) -> Result<MemStore, AllocError> {
         b"bits 2 8\nconst one 1\nconst c7 7\nconst c8 8\nconst top 255\nshlv a one c7\nshlv b one c8\nshrv c top top\nout a\nout b\nout c\n",
     )?;
     store.insert(
+        "quotients",
+        b"bits 2 8\nconst zero 0\nconst three 3\nconst five 5\nconst seven 7\nconst a 200\nconst top 255\ndiv q a seven\nrem r a seven\ndiv s five zero\nrem t five zero\ndiv u zero three\nrem v zero three\ndiv w top top\nrem x top top\nout q\nout r\nout s\nout t\nout u\nout v\nout w\nout x\n",
+    )?;
+    store.insert(
         "compare",
         b"bits 2 8\nin a\nlt l a a\nle m a a\ngt g a a\nge h a a\neq e a a\nne n a a\nconst seven 7\nconst nine 9\nselect s l seven nine\nselect t m seven nine\nout l\nout m\nout g\nout h\nout e\nout n\nout s\nout t\n",
     )?;
@@ -78,6 +82,11 @@ fn values_of_operations(rt: HostRuntime) -> Result<(), Fail> {
         ),
         ("plain shifts empty", 0, "a 128\nb 0\nc 0\n"),
         (
+            "plain quotients empty",
+            0,
+            "q 28\nr 4\ns 255\nt 5\nu 0\nv 0\nw 1\nx 0\n",
+        ),
+        (
             "plain compare compare.values",
             0,
             "l 0\nm 1\ng 0\nh 1\ne 1\nn 0\ns 9\nt 7\n",
@@ -99,6 +108,7 @@ fn refused(alloc: Global) -> Result<MemStore, AllocError> {
     store.insert("big", b"bits 2 8\nconst c 256\n")?;
     store.insert("late", b"bits 2 8\nin a\nadd s a b\nin b\n")?;
     store.insert("mixed", b"bits 2 8\nins a 4\ninw n 4\nadd s a n\n")?;
+    store.insert("signed", b"bits 2 8\nins a 8\ndiv q a a\n")?;
     store.insert("twice", b"bits 2 8\nin a\nin a\n")?;
     store.insert("flag", b"bits 2 8\ninbit a\nout a\n")?;
     store.insert("v", b"int a 8 200")?;
@@ -120,6 +130,7 @@ fn refusals_in_order(rt: HostRuntime) -> Result<(), Fail> {
         ("plain big empty", 5, "malformed big line 2 number\n"),
         ("plain late empty", 5, "malformed late line 3 unknown\n"),
         ("plain mixed empty", 5, "malformed mixed line 4 kind\n"),
+        ("plain signed empty", 5, "malformed signed line 3 kind\n"),
         ("plain twice empty", 5, "malformed twice line 3 again\n"),
         ("plain empty empty", 5, "malformed empty line 1 form\n"),
         ("plain sum v", 5, "malformed v line 1 form\n"),

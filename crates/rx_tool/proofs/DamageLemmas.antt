@@ -15,6 +15,7 @@ use Rattle.rx_circuit.specs.declared.inputs.InputError.TheVariants.{Missing as M
 use Rattle.rx_circuit.specs.Inputs.{found_inputs}
 use Rattle.rx_language.specs.Programs.{Program, inputs_of}
 use Rattle.rx_language.specs.Reading.{circuit_from}
+use Rattle.rx_meaning.specs.Bounds.{jobs_of}
 use Rattle.rx_client.specs.Encrypt.{first_width}
 use Rattle.rx_net.specs.declared.net.Net.{Net}
 use Rattle.rx_boot.specs.ServerKeys.{ServerWords}
@@ -40,12 +41,15 @@ use Rattle.rx_report.specs.Reports.{Report, status_of, not_accepted, malformed_b
 use Rattle.rx_tool.specs.declared.command.Source.{Source}
 use Rattle.rx_tool.specs.declared.command.Source.TheVariants.{Named, File}
 use Rattle.rx_tool.specs.declared.command.Command.{Command}
-use Rattle.rx_tool.specs.declared.command.Command.TheVariants.{Check, MakeClient, Keygen, Encrypt, Run, Decrypt, Plain, Make, Migrate, Expand}
+use Rattle.rx_tool.specs.declared.command.Command.TheVariants.{Check, MakeClient, Keygen, Encrypt, Compile, Run, Decrypt, Trip, Plain, Make, Migrate, Expand}
+use Rattle.rx_tool.specs.declared.command.TripWords.{TripWords}
 use Rattle.rx_tool.specs.Sources.{read_refusal, source_refusal}
 use Rattle.rx_tool.specs.Keygen.{keygen_refused, keygen_refusal}
-use Rattle.rx_tool.specs.Encrypt.{encrypt_refused, encrypt_refusal}
+use Rattle.rx_tool.specs.Encrypt.{width_refusal, encrypt_refused, encrypt_refusal}
+use Rattle.rx_tool.specs.Compile.{compile_refused, compile_refusal}
 use Rattle.rx_tool.specs.Refusals.{space_difference, set_difference, workers_refusal, jobs_refusal, board_refusal, limits_refusal}
 use Rattle.rx_tool.specs.Run.{one_malformed, malformed_input, ciphers_of, inputs_refusal, values_refusal, run_refused, run_refusal}
+use Rattle.rx_tool.specs.Trip.{trip_values_refusal, trip_refused, trip_refusal}
 use Rattle.rx_tool.specs.Plain.{inputs_refused, plain_refused, plain_refusal}
 use Rattle.rx_tool.specs.Migrate.{migrate_server_refused, migrate_cipher_refused, migrate_refusal}
 use Rattle.rx_tool.specs.Expand.{expand_server_refused, expand_cipher_refused, expand_refusal}
@@ -170,17 +174,47 @@ of_run server net workers names (first ∷ second ∷ files) = of_read (any_serv
     of_read (Ok k) (Ok n) =
         either (malformed_input names files) _ (of_inputs names files) (of_values k.params net n workers names (ciphers_of files))
 
+of_compile : (circuit : List ℕ) (files : List (List ℕ)) → NotDamage (compile_refusal circuit files)
+of_compile circuit [] = tt
+of_compile circuit (file ∷ []) = of_read (circuit_from file)
+  where
+    of_read : (read : Result Program LineFault) → NotDamage (compile_refused circuit read)
+    of_read (Err fault) = λ e. cc
+    of_read (Ok p) = of_test _ _ (λ e. cc)
+of_compile circuit (file ∷ more ∷ files) = tt
+
+of_given : (found : Result (List ℕ) InputError) → NotDamage (inputs_refused found)
+of_given (Ok numbers) = tt
+of_given (Err (MissingNumber name)) = λ e. cc
+of_given (Err (NumberForm name)) = λ e. cc
+of_given (Err NoMemory) = tt
+
+of_trip_values : (t : TripWords) (c : Client) (p : Program) (lines : List ValueLine) → NotDamage (trip_values_refusal t c p lines)
+of_trip_values t c p lines =
+    either (space_difference t.circuit c.params p.space) _ (of_test _ _ (λ e. cc))
+    (either (inputs_refused (found_inputs (inputs_of p) lines)) _ (of_given (found_inputs (inputs_of p) lines))
+    (either (width_refusal c lines) _ (of_width (first_width c.params.message_bits lines))
+    (of_limits c.params t.workers (jobs_of p))))
+
+of_trip : (t : TripWords) (files : List (List ℕ)) → NotDamage (trip_refusal t files)
+of_trip t [] = tt
+of_trip t (first ∷ []) = tt
+of_trip t (first ∷ second ∷ []) = tt
+of_trip t (first ∷ second ∷ third ∷ []) = of_read (client_from first) (circuit_from second) (values_from third)
+  where
+    of_read : (client : Result Client CodecFault) (read : Result Program LineFault) (lines : Result (List ValueLine) LineFault) →
+        NotDamage (trip_refused t client read lines)
+    of_read (Err fault) read lines = of_binary t.client fault
+    of_read (Ok c) (Err fault) lines = λ e. cc
+    of_read (Ok c) (Ok p) (Err fault) = λ e. cc
+    of_read (Ok c) (Ok p) (Ok lines) = of_trip_values t c p lines
+of_trip t (first ∷ second ∷ third ∷ more ∷ files) = tt
+
 of_plain : (circuit values : List ℕ) (files : List (List ℕ)) → NotDamage (plain_refusal circuit values files)
 of_plain circuit values [] = tt
 of_plain circuit values (file ∷ []) = tt
 of_plain circuit values (first ∷ second ∷ []) = of_read (circuit_from first) (values_from second)
   where
-    of_given : (found : Result (List ℕ) InputError) → NotDamage (inputs_refused found)
-    of_given (Ok numbers) = tt
-    of_given (Err (MissingNumber name)) = λ e. cc
-    of_given (Err (NumberForm name)) = λ e. cc
-    of_given (Err NoMemory) = tt
-
     of_read : (read : Result Program LineFault) (lines : Result (List ValueLine) LineFault) → NotDamage (plain_refused circuit values read lines)
     of_read (Err fault) lines = λ e. cc
     of_read (Ok p) (Err fault) = λ e. cc
@@ -248,8 +282,10 @@ of_files (Check source) files line e = absurd (other_status _ line (of_source so
 of_files (MakeClient source seed client) files line e = absurd (other_status _ line (of_source source files) e)
 of_files (Keygen client mask_seed server) files line e = absurd (other_status _ line (of_keygen client files) e)
 of_files (Encrypt client mask_seed noise_seed values out) files line e = absurd (other_status _ line (of_encrypt client values files) e)
+of_files (Compile circuit net) files line e = absurd (other_status _ line (of_compile circuit files) e)
 of_files (Run server net workers out inputs) files line e = absurd (other_status _ line (of_run server net workers inputs files) e)
 of_files (Decrypt client input) files line e = tt
+of_files (Trip t) files line e = absurd (other_status _ line (of_trip t files) e)
 of_files (Plain circuit values) files line e = absurd (other_status _ line (of_plain circuit values files) e)
 of_files (Make number circuit values) files line e = absurd (other_status None line tt e)
 of_files (Migrate mask_seed input out) files line e = absurd (other_status _ line (of_migrate mask_seed input files) e)

@@ -74,7 +74,7 @@ from_batches c name (b ∷ batches) =
     ∙ ap (λ ds. line_found m name b.lines ++ ds) (from_batches c name batches)
     ∙ sym (found_joined m name b.lines (batch_lines batches))
 
-inputs_plain : (c : Client) (inputs : List NetInput) (batches : List Batch) →
+pub inputs_plain : (c : Client) (inputs : List NetInput) (batches : List Batch) →
     digits_found inputs (items_of (batch_ciphers c batches)) (batch_digits c.params.message_bits batches)
     ≡ plain_digits c.params.message_bits inputs (batch_lines batches)
 inputs_plain c [] batches = refl

@@ -5,9 +5,11 @@ pub mod MakeClient
 pub mod Keygen
 pub mod Encrypt
 pub mod Refusals
+pub mod Compile
 pub mod Run
 pub mod Decrypt
 pub mod Plain
+pub mod Trip
 pub mod Make
 pub mod Migrate
 pub mod Expand
@@ -21,4 +23,5 @@ pub mod Ends
 pub mod Told
 pub mod Outcome
 pub mod WholeWay
+pub mod CircuitWay
 pub mod BothWays

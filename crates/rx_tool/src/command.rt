@@ -6,8 +6,10 @@ ghost use Rattle.rx_tool.specs.Check.{check_of};
 ghost use Rattle.rx_tool.specs.MakeClient.{client_of, seed_of};
 ghost use Rattle.rx_tool.specs.Keygen.{keygen_of};
 ghost use Rattle.rx_tool.specs.Encrypt.{encrypt_of};
+ghost use Rattle.rx_tool.specs.Compile.{compile_of};
 ghost use Rattle.rx_tool.specs.Run.{run_of, word_number};
 ghost use Rattle.rx_tool.specs.Decrypt.{decrypt_of};
+ghost use Rattle.rx_tool.specs.Trip.{trip_of, trip_with};
 ghost use Rattle.rx_tool.specs.Plain.{plain_of};
 ghost use Rattle.rx_tool.specs.Make.{make_of};
 ghost use Rattle.rx_tool.specs.Migrate.{migrate_of};
@@ -32,6 +34,27 @@ pub enum Source<'a> {
     File(Word<'a>),
 }
 
+/// The words of `trip`. Seeds have 32 bytes.
+#[derive(Drop)]
+pub struct TripWords<'a> {
+    /// The client file.
+    pub client: Word<'a>,
+    /// The mask seed of the server key.
+    pub key_seed: [u8; 32],
+    /// The mask seed of the ciphertexts.
+    pub mask_seed: [u8; 32],
+    /// The noise seed of the ciphertexts.
+    pub noise_seed: [u8; 32],
+    /// The circuit.
+    pub circuit: Word<'a>,
+    /// The value file.
+    pub values: Word<'a>,
+    /// How many workers there are, any number.
+    pub workers: u64,
+    /// What the names of the files that are written begin with.
+    pub prefix: Word<'a>,
+}
+
 /// A command with its words, in their order. `P` is a set's name or the name of a file; seeds have 32 bytes.
 #[derive(Drop)]
 pub enum Command<'a> {
@@ -43,10 +66,14 @@ pub enum Command<'a> {
     Keygen(Word<'a>, [u8; 32], Word<'a>),
     /// `encrypt CLIENT MASKSEED NOISESEED VALUES OUT`.
     Encrypt(Word<'a>, [u8; 32], [u8; 32], Word<'a>, Word<'a>),
+    /// `compile CIRCUIT NET`.
+    Compile(Word<'a>, Word<'a>),
     /// `run SERVER NET WORKERS OUT IN..`, with any number of workers and up to 64 names of inputs.
     Run(Word<'a>, Word<'a>, u64, Word<'a>, Names<'a>),
     /// `decrypt CLIENT IN`.
     Decrypt(Word<'a>, Word<'a>),
+    /// `trip CLIENT KEYSEED MASKSEED NOISESEED CIRCUIT VALUES WORKERS PREFIX`.
+    Trip(TripWords<'a>),
     /// `plain CIRCUIT VALUES`.
     Plain(Word<'a>, Word<'a>),
     /// `make NUMBER CIRCUIT VALUES`.
@@ -71,10 +98,14 @@ pub fn parse(words: &[String]) -> Option<Command<'_>>
         parse_keygen(arguments)
     } else if word == "encrypt" {
         parse_encrypt(arguments)
+    } else if word == "compile" {
+        parse_compile(arguments)
     } else if word == "run" {
         parse_run(arguments)
     } else if word == "decrypt" {
         parse_decrypt(arguments)
+    } else if word == "trip" {
+        parse_trip(arguments)
     } else if word == "plain" {
         parse_plain(arguments)
     } else if word == "make" {
@@ -171,6 +202,18 @@ fn parse_encrypt(arguments: &[String]) -> Option<Command<'_>>
     }
 }
 
+fn parse_compile(arguments: &[String]) -> Option<Command<'_>>
+    ensures { result ≡ compile_of (texts arguments.now) }
+{
+    match arguments {
+        [circuit, net] => Some(Command::Compile(
+            Word::new(circuit.as_str()),
+            Word::new(net.as_str()),
+        )),
+        _ => None,
+    }
+}
+
 fn parse_run(arguments: &[String]) -> Option<Command<'_>>
     ensures { result ≡ run_of (texts arguments.now) }
 {
@@ -200,6 +243,48 @@ fn parse_decrypt(arguments: &[String]) -> Option<Command<'_>>
             Word::new(client.as_str()),
             Word::new(input.as_str()),
         )),
+        _ => None,
+    }
+}
+
+fn parse_trip(arguments: &[String]) -> Option<Command<'_>>
+    ensures { result ≡ trip_of (texts arguments.now) }
+{
+    match arguments {
+        [client, key_seed, mask_seed, noise_seed, rest @ ..] => {
+            let key_seed = parse_seed(key_seed.as_str())?;
+            let mask_seed = parse_seed(mask_seed.as_str())?;
+            let noise_seed = parse_seed(noise_seed.as_str())?;
+            parse_trip_with(client.as_str(), key_seed, mask_seed, noise_seed, rest)
+        }
+        _ => None,
+    }
+}
+
+/// The command of a client, three seeds and the words after them.
+fn parse_trip_with<'a>(
+    client: &'a str,
+    key_seed: [u8; 32],
+    mask_seed: [u8; 32],
+    noise_seed: [u8; 32],
+    rest: &'a [String],
+) -> Option<Command<'a>>
+    ensures { result ≡ trip_with client.now key_seed mask_seed noise_seed (texts rest.now) }
+{
+    match rest {
+        [circuit, values, workers, prefix] => {
+            let workers = parse_number(workers.as_str())?;
+            Some(Command::Trip(TripWords {
+                client: Word::new(client),
+                key_seed,
+                mask_seed,
+                noise_seed,
+                circuit: Word::new(circuit.as_str()),
+                values: Word::new(values.as_str()),
+                workers,
+                prefix: Word::new(prefix.as_str()),
+            }))
+        }
         _ => None,
     }
 }
@@ -269,8 +354,10 @@ impl<'a> Command<'a> {
             Command::MakeClient(source, _, _) => source.reads(alloc),
             Command::Keygen(client, _, _) => one(alloc, client),
             Command::Encrypt(client, _, _, values, _) => both(alloc, client, values),
+            Command::Compile(circuit, _) => one(alloc, circuit),
             Command::Run(server, net, _, _, inputs) => both_and(alloc, server, net, inputs),
             Command::Decrypt(client, input) => both(alloc, client, input),
+            Command::Trip(words) => three(alloc, &words.client, &words.circuit, &words.values),
             Command::Plain(circuit, values) => both(alloc, circuit, values),
             Command::Make(_, _, _) => Ok(Vec::new(alloc)),
             Command::Migrate(_, input, _) => one(alloc, input),
@@ -307,6 +394,19 @@ fn both<'a>(alloc: Global, first: &Word<'a>, second: &Word<'a>) -> Result<Vec<Wo
     let mut names = Vec::new(alloc);
     names.push(Word::new(first.as_str()))?;
     names.push(Word::new(second.as_str()))?;
+    Ok(names)
+}
+
+fn three<'a>(
+    alloc: Global,
+    first: &Word<'a>,
+    second: &Word<'a>,
+    third: &Word<'a>,
+) -> Result<Vec<Word<'a>>, AllocError>
+    ensures { IfOk result (λ names. names.items ≡ first.now ∷ second.now ∷ third.now ∷ []) }
+{
+    let mut names = both(alloc, first, second)?;
+    names.push(Word::new(third.as_str()))?;
     Ok(names)
 }
 

@@ -3,6 +3,7 @@
 //! command touches the store or the sink.
 mod check;
 mod client;
+mod compile;
 mod decrypt;
 mod differences;
 mod encrypt;
@@ -17,9 +18,12 @@ mod run;
 mod run_checks;
 mod run_inputs;
 mod shared;
+mod trip;
+mod trip_parts;
 
 pub use check::check_set;
 pub use client::make_client;
+pub use compile::compile_circuit;
 pub use decrypt::decrypt_numbers;
 pub use encrypt::encrypt_numbers;
 pub use expand::expand_file;
@@ -28,3 +32,4 @@ pub use make::make_files;
 pub use migrate::migrate_file;
 pub use plain::evaluate_plain;
 pub use run::run_net_files;
+pub use trip::run_trip;

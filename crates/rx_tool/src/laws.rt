@@ -1,5 +1,6 @@
-//! The laws of the whole way and of both versions of files, as contracts can name them.
+//! The laws of the whole way, for nets and for circuits, and of both versions of files, as contracts can name them.
 ghost use Rattle.rx_tool.specs.WholeWay.{WholeWayLaws};
+ghost use Rattle.rx_tool.specs.CircuitWay.{CircuitWayLaws};
 ghost use Rattle.rx_tool.specs.BothWays.{BothWaysLaws};
 
 use rx_boot::server_key_laws;
@@ -19,6 +20,14 @@ pub fn whole_way_laws()
     keeping_laws();
     server_laws();
     reading_laws();
+}
+
+/// The same for a circuit and a net that is compiled of it: where the value lines hold the circuit's inputs, the
+/// client decrypts the circuit's values; and no block is damaged.
+pub fn circuit_way_laws()
+    ensures { CircuitWayLaws }
+{
+    whole_way_laws();
 }
 
 /// What `migrate` writes `expand` gives back, and the other way round.

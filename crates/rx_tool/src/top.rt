@@ -11,8 +11,8 @@ ghost use Rattle.rx_tool.specs.Outcome.{IsOutcome};
 use crate::bytes::Bytes;
 use crate::command::{Command, parse};
 use crate::commands::{
-    check_set, decrypt_numbers, encrypt_numbers, evaluate_plain, expand_file, make_client,
-    make_files, make_server, migrate_file, run_net_files,
+    check_set, compile_circuit, decrypt_numbers, encrypt_numbers, evaluate_plain, expand_file,
+    make_client, make_files, make_server, migrate_file, run_net_files, run_trip,
 };
 use crate::engine::{read_all, write_all};
 use crate::outcome::{Done, Output, Stop};
@@ -121,10 +121,12 @@ fn answer<R: Threads + Sync, G: Gate + Sync>(
         Command::Encrypt(client, mask_seed, noise_seed, values, out) => {
             encrypt_numbers(alloc, client, mask_seed, noise_seed, values, out, files)
         }
+        Command::Compile(circuit, net) => compile_circuit(alloc, circuit, net, files),
         Command::Run(server, net, workers, out, inputs) => run_net_files(
             rt, alloc, server, net, *workers, out, inputs, files, gate,
         ),
         Command::Decrypt(client, input) => decrypt_numbers(alloc, client, input, files),
+        Command::Trip(words) => run_trip(rt, alloc, words, files, gate),
         Command::Plain(circuit, values) => evaluate_plain(alloc, circuit, values, files),
         Command::Make(number, circuit, values) => {
             make_files(alloc, *number, circuit, values, files)

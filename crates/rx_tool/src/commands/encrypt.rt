@@ -56,7 +56,7 @@ pub fn encrypt_numbers(
 }
 
 /// The seeded ciphertext file of the lines under a client's key.
-fn encrypted(
+pub fn encrypted(
     alloc: Global,
     keys: &Client,
     mask_seed: &[u8; 32],

@@ -51,7 +51,7 @@ pub fn evaluate_plain(
 }
 
 /// Stops for an input for which there is no number, or for want of memory.
-fn stop_for_input(alloc: Global, error: InputError) -> Stop
+pub fn stop_for_input(alloc: Global, error: InputError) -> Stop
     ensures { StopsFor (input_refusal error) result }
 {
     match error {
