@@ -46,6 +46,19 @@ fn assert_plain<R: Threads + Sync + AllocGlobal + Abort>(
     Ok(())
 }
 
+/// Asserts that 1, 2 and 7 workers write the file that 4 workers wrote.
+fn assert_one_file<R: Threads + Sync + AllocGlobal + Abort>(
+    rt: &R,
+    store: &mut MemStore,
+) -> Result<(), Fail> {
+    for workers in [1, 2, 7] {
+        let line = format!(in rt.alloc(); "run s net {workers} other in")?;
+        assert_eq!(rt; printed(rt, line.as_str(), store)?.0, 0, "{line}");
+        assert!(rt; store.get("other") == store.get("out"), "{line}");
+    }
+    Ok(())
+}
+
 /// All pairs of numbers, through weights that gather all noise that is allowed.
 #[test]
 fn weights_gather_all_noise(rt: HostRuntime) -> Result<(), Fail> {
@@ -79,7 +92,7 @@ fn forty_jobs_of_rx_3_3(rt: HostRuntime) -> Result<(), Fail> {
     forty_jobs(&rt, "rx-3-3", 3, &[41, 54, 1])
 }
 
-/// Runs the net of forty jobs over a set of so many message bits.
+/// Runs the net of forty jobs over a set of so many message bits, with each number of workers.
 fn forty_jobs<R: Threads + Sync + AllocGlobal + Abort>(
     rt: &R,
     set: &str,
@@ -91,5 +104,6 @@ fn forty_jobs<R: Threads + Sync + AllocGlobal + Abort>(
     let net = mixed_net(rt.alloc(), space)?;
     assert_eq!(rt; net.jobs.as_slice().len(), 40);
     let mut store = keys(rt, set)?;
-    assert_plain(rt, &mut store, &net, numbers)
+    assert_plain(rt, &mut store, &net, numbers)?;
+    assert_one_file(rt, &mut store)
 }
