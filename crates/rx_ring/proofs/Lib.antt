@@ -15,7 +15,19 @@ pub mod KeySwitch
 pub mod Marks
 pub mod BlindRotation
 pub mod Bootstrap
+pub mod Pairs
+pub mod PairBootstrap
 pub mod TurnWords
 pub mod Combination
 mod Examples
 mod ExamplesRows
+pub mod Blocks
+pub mod Levels
+pub mod Interleaved
+pub mod BlockBounds
+pub mod BlockSums
+pub mod BlockPlaces
+pub mod Recovered
+pub mod BlockFits
+pub mod Limbs
+mod ExamplesBlocks

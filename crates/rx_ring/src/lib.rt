@@ -5,6 +5,8 @@
 
 ghost use Rattle.rx_ring.specs.Laws.{ProductLaws, LinearLaws, GlweLaws, ExtractionLaws, ExternalProductLaws, TurnLaws};
 ghost use Rattle.rx_ring.specs.BootstrapLaws.{CombinationLaws, KeySwitchLaws, ModulusSwitchLaws, AccumulatorLaws, BootstrapLaws};
+ghost use Rattle.rx_ring.specs.PairLaws.{PairTurnLaws, PairBootstrapLaws};
+ghost use Rattle.rx_ring.specs.BlockLaws.{BlockLaws, PointLaws, RecoveryLaws};
 
 /// The product of polynomials of n coefficients is linear in each argument, commutative and associative,
 /// and a turn passes through it. A turn by t is the product by `X^t`, for every t. Turns add, a turn by 2n is
@@ -71,4 +73,36 @@ pub fn accumulator_laws()
 /// small key.
 pub fn bootstrap_laws()
     ensures { BootstrapLaws }
+{}
+
+/// For the two bits of a pair, 1 and what three products of the bits change is one turn by what the bits have
+/// chosen. So the external product by the rows of a pair turns the phase by that, within `turn_bound` of rows of
+/// six times the noise, and the turns by all pairs together turn it by what all bits have chosen.
+pub fn pair_turn_laws()
+    ensures { PairTurnLaws }
+{}
+
+/// The bootstrap by pairs looks its number up as `bootstrap_laws` says, with `turn_bound` of rows of six times
+/// the noise for each pair of bits.
+pub fn pair_bootstrap_laws()
+    ensures { PairBootstrapLaws }
+{}
+
+/// A level down takes a product modulo `Z^2h - Y^2s` to the products modulo `Z^h - Y^s` and `Z^h + Y^s`, and
+/// a level up after it doubles. So products at the points of both start nodes, and all levels up, give
+/// `2^(d + 1)` times the product of polynomials of `2^d r` coefficients.
+pub fn block_laws()
+    ensures { BlockLaws }
+{}
+
+/// Each level down or up at most doubles the coefficients, the last step up makes them at most four times as
+/// great, and all of it is linear.
+pub fn point_laws()
+    ensures { PointLaws }
+{}
+
+/// Products at the points that are right modulo `2^69`, in a low part that is exact and a high part, give
+/// the sum of the products of polynomials modulo `2^64`, and the low part stays below `2^63`.
+pub fn recovery_laws()
+    ensures { RecoveryLaws }
 {}
