@@ -3,8 +3,8 @@ use Rattle.std.proofs.Common.{◌≡◌, ◌-◌, ◌^◌, true, false, Ok, Err,
 use Rattle.std.specs.Prelude.{codes}
 use Rattle.rx_params.specs.declared.kind.Kind.TheVariants.{Int, Bit}
 use Rattle.rx_params.specs.declared.bounds.Refused.TheVariants.{Limit, NarrowBox, Noise}
-use Rattle.rx_params.specs.Derived.{large_dim, noise_limit, key_words, rest_of, step_of, boot_of, base_of, switch_of, round_of, left_of, right_of}
-use Rattle.rx_params.specs.Acceptance.{refusal_of, checked}
+use Rattle.rx_params.specs.Derived.{large_dim, noise_limit, key_words, pair_words, rest_of, step_of, pair_step_of, boot_of, pair_boot_of, base_of, pair_base_of, switch_of, round_of, left_of, pair_left_of, right_of, pair_bounds_of}
+use Rattle.rx_params.specs.Acceptance.{refusal_of, pair_refusal_of, checked, pair_checked}
 use Rattle.rx_params.specs.Sets.{set_of, rx_2_2, rx_test, rx_3_3, rx_k2, named_of}
 use Rattle.rx_params.specs.Kinds.{greatest, block_count, is_form, digit_at}
 
@@ -46,10 +46,41 @@ checked-box : checked (set_of 3 1 64 24 12 3 5 6 17 20) ≡ Err (NarrowBox 64 64
 unfolding key_words refusal_of
 checked-box = refl
 
+-- ---- the same sets for the rotation by pairs
+pair_checked-rx_2_2 : pair_checked rx_2_2 ≡ Ok (record {
+  step = 285323267407872;
+  boot = 3423879208894464;
+  base = 3423879208894464;
+  switch = 281500746514432;
+  round = 225179981368524800;
+  left = 242580878159511552;
+  right = 288230376151711744;
+})
+unfolding pair_words rest_of pair_step_of pair_boot_of pair_base_of switch_of round_of pair_left_of pair_refusal_of
+pair_checked-rx_2_2 = refl
+
+pair_bounds-rx_test : (pair_step_of rx_test ≡ 142936511610880) × (pair_boot_of rx_test ≡ 571746046443520) × (pair_left_of rx_test ≡ 165129067190812672)
+unfolding rest_of pair_step_of pair_boot_of pair_base_of switch_of round_of pair_left_of
+pair_bounds-rx_test = (refl, refl, refl)
+
+-- 28 bits are too many for bit after bit, and few enough for pairs
+checked-28_bits : checked (set_of 2 1 512 28 12 2 4 6 17 20) ≡ Err (Noise 301050707501383680 288230376151711744)
+unfolding key_words rest_of step_of boot_of base_of switch_of round_of left_of refusal_of
+checked-28_bits = refl
+
+pair_checked-28_bits : (pair_checked (set_of 2 1 512 28 12 2 4 6 17 20) ≡ Ok (pair_bounds_of (set_of 2 1 512 28 12 2 4 6 17 20))) × (pair_left_of (set_of 2 1 512 28 12 2 4 6 17 20) ≡ 281462907852554240)
+unfolding pair_words rest_of pair_step_of pair_boot_of pair_base_of switch_of round_of pair_left_of pair_refusal_of
+pair_checked-28_bits = (refl, refl)
+
+-- 27 bits are no pairs, and a field before the bits is refused first
+pair_checked-odd : (pair_checked (set_of 2 1 512 27 12 2 4 6 17 20) ≡ Err (Limit 4 27)) × (pair_checked (set_of 2 1 100 27 12 2 4 6 17 20) ≡ Err (Limit 3 100))
+unfolding pair_refusal_of
+pair_checked-odd = (refl, refl)
+
 -- ---- sizes, names, and numbers as blocks
-sizes : (large_dim rx_k2 ≡ 512) × (key_words rx_test ≡ 30208) × (key_words rx_2_2 ≡ 175104) × (noise_limit 2 ≡ 5) × (noise_limit 3 ≡ 9)
-unfolding large_dim key_words
-sizes = (refl, refl, refl, refl, refl)
+sizes : (large_dim rx_k2 ≡ 512) × (key_words rx_test ≡ 30208) × (key_words rx_2_2 ≡ 175104) × (pair_words rx_test ≡ 38400) × (noise_limit 2 ≡ 5) × (noise_limit 3 ≡ 9)
+unfolding large_dim key_words pair_words
+sizes = (refl, refl, refl, refl, refl, refl)
 
 names : (named_of (codes "rx-3-3") ≡ Some rx_3_3) × (named_of (codes "rx-2-3") ≡ None) × (named_of (codes "rx-tes") ≡ None)
 names = (refl, refl, refl)

@@ -23,12 +23,16 @@ pub enum StreamKind {
     BlockMask,
     /// The noise of one fresh block, under the noise seed of the encryption. The row is the same.
     BlockNoise,
+    /// Masks of one row of a rotation by pairs, under the mask seed of the key.
+    PairMask,
+    /// Noises of one row of a rotation by pairs, under the client's seed.
+    PairNoise,
 }
 
 impl StreamKind {
     ghost use Rattle.rx_torus.specs.Kinds.{stream_number};
 
-    /// The number of the stream of a row: the kind, from 1 to 8 in the order above, times 2^32, and the row.
+    /// The number of the stream of a row: the kind, from 1 to 10 in the order above, times 2^32, and the row.
     pub fn stream_number(self, row: u32) -> u64
         ensures { result ≡ stream_number self row }
     {
@@ -41,6 +45,8 @@ impl StreamKind {
             StreamKind::SwitchNoise => 6,
             StreamKind::BlockMask => 7,
             StreamKind::BlockNoise => 8,
+            StreamKind::PairMask => 9,
+            StreamKind::PairNoise => 10,
         };
         kind * 0x1_0000_0000 + u64::from(row)
     }

@@ -75,6 +75,8 @@ fn words_near_zero_and_between_steps(rt: HostRuntime) {
 fn a_row_of_a_kind_has_its_stream(rt: HostRuntime) {
     assert_eq!(rt; StreamKind::SmallKey.stream_number(0), 0x1_0000_0000);
     assert_eq!(rt; StreamKind::BlockNoise.stream_number(5), 0x8_0000_0005);
+    assert_eq!(rt; StreamKind::PairMask.stream_number(0), 0x9_0000_0000);
+    assert_eq!(rt; StreamKind::PairNoise.stream_number(287), 0xa_0000_011f);
 }
 
 #[test]

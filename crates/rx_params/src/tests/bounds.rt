@@ -1,5 +1,5 @@
 //! The limits of the fields at their edges, and worked sums.
-use crate::{Bounds, Params, Refused, check, named};
+use crate::{Bounds, Params, Refused, check, check_pairs, named};
 
 fn set(fields: [u32; 10]) -> Params {
     let [
@@ -160,6 +160,51 @@ fn sets_that_pass_the_limits_and_are_refused(rt: HostRuntime) {
         ),
     ] {
         assert_eq!(rt; check(&set(fields)), Err(refused));
+    }
+}
+
+#[test]
+fn worked_sets_by_pairs(rt: HostRuntime) {
+    assert_eq!(rt;
+        check_pairs(&set([2, 1, 512, 24, 12, 2, 4, 6, 17, 20])),
+        Ok(Bounds {
+            step: 285_323_267_407_872,
+            boot: 3_423_879_208_894_464,
+            base: 3_423_879_208_894_464,
+            switch: 281_500_746_514_432,
+            round: 225_179_981_368_524_800,
+            left: 242_580_878_159_511_552,
+            right: 288_230_376_151_711_744,
+        })
+    );
+    let p = named("rx-test").unwrap_or(set([0; 10]));
+    let sums = check_pairs(&p).map(|bounds| (bounds.step, bounds.boot, bounds.left));
+    let worked = (
+        142_936_511_610_880u128,
+        571_746_046_443_520u128,
+        165_129_067_190_812_672u128,
+    );
+    assert_eq!(rt; sums, Ok(worked));
+}
+
+/// 28 bits are too many for bit after bit and few enough for pairs, and an odd number of bits is no pairs.
+#[test]
+fn sets_that_a_rotation_takes_and_the_other_refuses(rt: HostRuntime) {
+    let wide = set([2, 1, 512, 28, 12, 2, 4, 6, 17, 20]);
+    let refused = Refused::Noise {
+        left: 301_050_707_501_383_680,
+        right: 288_230_376_151_711_744,
+    };
+    assert_eq!(rt; check(&wide), Err(refused));
+    let left = check_pairs(&wide).map(|bounds| bounds.left);
+    assert_eq!(rt; left, Ok(281_462_907_852_554_240u128));
+    for bits in [1u32, 7, 27, 1023] {
+        let odd = set([2, 1, 512, bits, 12, 2, 4, 6, 17, 20]);
+        let refused = Refused::Limit {
+            field: 4,
+            value: u64::from(bits),
+        };
+        assert_eq!(rt; check_pairs(&odd), Err(refused), "{bits}");
     }
 }
 

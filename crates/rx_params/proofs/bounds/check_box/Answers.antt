@@ -8,4 +8,4 @@ pub returns-else-numbers-p-clause-narrow : goal.returns-else-numbers-p-clause-na
 returns-else-numbers-p-clause-narrow c =
     let numbers : c.from-numbers.result ≡ plaintexts c.args.p.now.message_bits = c.from-numbers.ensures ∙ c.plaintexts.ensures.value in
     let narrow : c.args.p.now.poly_size < 2 * plaintexts c.args.p.now.message_bits = rw numbers at c.if-numbers-p.false in
-    refused-box c.args.p.now c.requires.fields c.requires.key narrow ∙ ap (λ n. Some (NarrowBox c.args.p.now.poly_size n)) (sym numbers)
+    refused-box c.args.rotation c.args.p.now c.requires.fields c.requires.whole c.requires.key narrow ∙ ap (λ n. Some (NarrowBox c.args.p.now.poly_size n)) (sym numbers)
