@@ -40,8 +40,8 @@ boxes_of m n log (inr three) low size wide =
     let above : 7 ≤ log = longer log low (omega (arith, numbers, size, wide)) (cases_lt log 7) in
     ap (λ k. plaintexts k * (2 * (n / plaintexts k / 2))) three ∙ boxes_64 n (2 ^ (log - 7)) (size ∙ multiple log 7 above)
 
-pub boxes : (p : Params) → Accepts p → plaintexts p.message_bits * (2 * half_box p) ≡ p.poly_size
-boxes p ok = boxes_of p.message_bits p.poly_size ok.fields.poly_size.0 ok.fields.message_bits ok.fields.poly_size.1.0 ok.fields.poly_size.2 ok.wide
+pub boxes : (p : Params) → FieldsInRange p → 2 * plaintexts p.message_bits ≤ p.poly_size → plaintexts p.message_bits * (2 * half_box p) ≡ p.poly_size
+boxes p fields wide = boxes_of p.message_bits p.poly_size fields.poly_size.0 fields.message_bits fields.poly_size.1.0 fields.poly_size.2 wide
 
 -- ---- the marks
 pub half_mark-power : (p : Params) (fields : FieldsInRange p) → half_mark p ≡ 2 ^ (62 - fields.poly_size.0)
@@ -62,8 +62,8 @@ round_once e n whole =
     let four : 2 * e * (2 * n) ≡ 4 * (e * n) = omega arith in
     omega (arith, four, whole)
 
-pub marks : (p : Params) → FieldsInRange p → 2 * half_mark p * (2 * p.poly_size) ≡ 2 ^ 64
-marks p fields = round_once (half_mark p) p.poly_size (quarter p fields)
+pub marks_round : (p : Params) → FieldsInRange p → 2 * half_mark p * (2 * p.poly_size) ≡ 2 ^ 64
+marks_round p fields = round_once (half_mark p) p.poly_size (quarter p fields)
 
 -- ---- the unit
 product_of : (numbers e h n : ℕ) → numbers * (2 * h) ≡ n → e * n ≡ 2 ^ 62 → numbers * 2 * (e * h) ≡ 2 ^ 62
@@ -85,33 +85,34 @@ even_unit : (m : ℕ) → (m ≡ 2) ⊎ (m ≡ 3) → 2 * (unit m / 2) ≡ unit 
 even_unit m (inl two) = ap (λ k. 2 * (unit k / 2)) two ∙ ap unit (sym two)
 even_unit m (inr three) = ap (λ k. 2 * (unit k / 2)) three ∙ ap unit (sym three)
 
-pub half : (p : Params) → Accepts p → 2 * half_mark p * half_box p ≡ right_of p
-half p ok =
+pub half : (p : Params) → FieldsInRange p → 2 * plaintexts p.message_bits ≤ p.poly_size → 2 * half_mark p * half_box p ≡ right_of p
+half p fields wide =
     let e : ℕ = half_mark p in
     let h : ℕ = half_box p in
     let order : 2 * e * h ≡ 2 * (e * h) = omega arith in
-    order ∙ half_unit_of p.message_bits (e * h) ok.fields.message_bits
-    (product_of (plaintexts p.message_bits) e h p.poly_size (boxes p ok) (quarter p ok.fields))
+    order ∙ half_unit_of p.message_bits (e * h) fields.message_bits
+    (product_of (plaintexts p.message_bits) e h p.poly_size (boxes p fields wide) (quarter p fields))
 
 twice : (e h x u : ℕ) → 2 * e * h ≡ x → 2 * x ≡ u → 2 * e * (2 * h) ≡ u
 twice e h x u p q =
     let order : 2 * e * (2 * h) ≡ 2 * (2 * e * h) = omega arith in
     order ∙ ap (λ y. 2 * y) p ∙ q
 
-pub units : (p : Params) → Accepts p → 2 * half_mark p * (2 * half_box p) ≡ unit p.message_bits
-units p ok = twice (half_mark p) (half_box p) (right_of p) (unit p.message_bits) (half p ok) (even_unit p.message_bits ok.fields.message_bits)
+pub units : (p : Params) → FieldsInRange p → 2 * plaintexts p.message_bits ≤ p.poly_size → 2 * half_mark p * (2 * half_box p) ≡ unit p.message_bits
+units p fields wide =
+    twice (half_mark p) (half_box p) (right_of p) (unit p.message_bits) (half p fields wide) (even_unit p.message_bits fields.message_bits)
 
 pub room : (p : Params) → Accepts p → left_of p < 2 * half_mark p * half_box p
-room p ok = omega (arith, ok.below, half p ok)
+room p ok = omega (arith, ok.below, half p ok.fields ok.wide)
 
 -- ---- the sums
 pub budget_laws : BudgetLaws
 unfolding rest_of step_of boot_of switch_of round_of left_of large_dim external_bound turn_bound switch_bound
 budget_laws = record {
-  boxes = boxes;
-  marks = marks;
-  units = units;
-  half = half;
+  boxes = λ p ok. boxes p ok.fields ok.wide;
+  marks = marks_round;
+  units = λ p ok. units p ok.fields ok.wide;
+  half = λ p ok. half p ok.fields ok.wide;
   step = λ p. refl;
   boot = λ p. refl;
   switch = λ p. refl;

@@ -22,7 +22,7 @@ use Rattle.rx_ring.proofs.Bootstrap.{bootstrap_noise}
 use Rattle.rx_ring.proofs.Congruence.{external_same, extracted-word}
 use Rattle.rx_ring.proofs.TurnWords.{turned_away-word}
 use Rattle.rx_params.specs.declared.params.Params.{Params}
-use Rattle.rx_params.specs.Acceptance.{Accepts}
+use Rattle.rx_params.specs.Acceptance.{FieldsInRange, Accepts}
 use Rattle.rx_params.specs.Derived.{large_dim}
 use Rattle.rx_lwe.specs.SwitchKeys.{switch_key, switch_rows, switched_words}
 use Rattle.rx_boot.specs.BootKeys.{boot_rows}
@@ -31,7 +31,7 @@ use Rattle.rx_boot.specs.Bootstrap.{half_box, half_mark, marks, table_accumulato
 use Rattle.rx_boot.specs.Noise.{input_noise, LooksUp}
 use Rattle.rx_boot.specs.NoiseLaws.{LookupLaws}
 use Rattle.rx_boot.proofs.Sizes.{some_coefficients}
-use Rattle.rx_boot.proofs.Budget.{budget_laws, some_half}
+use Rattle.rx_boot.proofs.Budget.{budget_laws, units, some_half}
 use lib.IntN.{neg_ℤ}
 
 -- ---- the turns by two lists of marks that agree
@@ -58,7 +58,7 @@ rotation_marks n k b l d rows v w f same q i r =
     ∙ ap (λ m. turn n k b l rows w (turns n f (2 * n - m)) d q i) (same d (omega arith))
 
 -- the marks of the words of a switched input, read from their list
-marks_of : (p : Params) (switch input : List ℕ) (i : ℕ) → i < p.lwe_dim + 1 →
+pub marks_of : (p : Params) (switch input : List ℕ) (i : ℕ) → i < p.lwe_dim + 1 →
     marks p (switched_words (switch_key p switch) input) i
     ≡ switched_marks (half_mark p) (2 * p.poly_size) (large_dim p) p.lwe_dim p.ks_base_log p.ks_level (switch_rows (switch_key p switch)) (of_words input) i
 marks_of p switch input i q =
@@ -74,7 +74,7 @@ phase_key d key other w same =
     lwe_phase_is d key w ∙ ap (λ x. w d -ℤ x) terms ∙ sym (lwe_phase_is d other w)
 
 -- the distance of a phase from a number depends on the words and on the key's places alone
-phase_gap : (d : ℕ) (key other v w : ℕ → ℤ) (z : ℤ) → ((u : ℕ) → u < d → key u ≡ other u) → ((u : ℕ) → u < d + 1 → word (v u) ≡ word (w u)) →
+pub phase_gap : (d : ℕ) (key other v w : ℕ → ℤ) (z : ℤ) → ((u : ℕ) → u < d → key u ≡ other u) → ((u : ℕ) → u < d + 1 → word (v u) ≡ word (w u)) →
     distance (lwe_phase d key v -ℤ z) ≡ distance (lwe_phase d other w -ℤ z)
 phase_gap d key other v w z keys words =
     ap (λ x. distance (x -ℤ z)) (phase_key d key other v keys)
@@ -86,16 +86,16 @@ flat_parts : (n u : ℕ) (large : List ℕ) → of_words large u ≡ flat n (of_
 unfolding flat
 flat_parts n u large = ap (of_words large) (sym (div-add-mod' u n))
 
-bit_key : (p : Params) (small large : List ℕ) → IsSecret p small large → IsBitKey p.poly_size p.glwe_dim (of_parts p.poly_size large)
+pub bit_key : (p : Params) (small large : List ℕ) → IsSecret p small large → IsBitKey p.poly_size p.glwe_dim (of_parts p.poly_size large)
 unfolding IsBitKey large_dim
 bit_key p small large secret j i q r =
     let place : j * p.poly_size + i < length large = omega (arith, mul-add-lt j p.poly_size i p.glwe_dim q r, secret.large_size) in
     omega (arith, secret.large_bits (j * p.poly_size + i) place)
 
-small_bit : (p : Params) (small large : List ℕ) → IsSecret p small large → (i : ℕ) → i < p.lwe_dim → get_or small i 0 ≤ 1
+pub small_bit : (p : Params) (small large : List ℕ) → IsSecret p small large → (i : ℕ) → i < p.lwe_dim → get_or small i 0 ≤ 1
 small_bit p small large secret i q = omega (arith, secret.small_bits i (omega (arith, secret.small_size, q)))
 
-switch_flat : (n k small levels noise : ℕ) (weight to : ℕ → ℤ) (large : List ℕ) (rows : ℕ → ℕ → ℕ → ℤ) →
+pub switch_flat : (n k small levels noise : ℕ) (weight to : ℕ → ℤ) (large : List ℕ) (rows : ℕ → ℕ → ℕ → ℤ) →
     IsSwitch (k * n) small levels noise weight (of_words large) to rows →
     IsSwitch (k * n) small levels noise weight (flat n (of_parts n large)) to rows
 switch_flat n k small levels noise weight to large rows is = record {
@@ -103,7 +103,7 @@ switch_flat n k small levels noise weight to large rows is = record {
 }
 
 -- the phase of a list of words under a list of bits, as the laws of ciphertexts speak of it
-near_flat : (n k : ℕ) (large xs : List ℕ) (f : ℕ → ℤ) (z : ℤ) → length large ≡ k * n →
+pub near_flat : (n k : ℕ) (large xs : List ℕ) (f : ℕ → ℤ) (z : ℤ) → length large ≡ k * n →
     ((u : ℕ) → u < k * n + 1 → word (of_words xs u) ≡ word (f u)) →
     distance (lwe_phase (length large) (of_words large) (of_words xs) -ℤ z) ≡ distance (lwe_phase (k * n) (flat n (of_parts n large)) f -ℤ z)
 near_flat n k large xs f z size words =
@@ -141,12 +141,12 @@ bootstrapped-word key table input u some q =
     (table_accumulator p table) (λ t s. marks_of p key.switch input t s) j i r)) some q
 
 -- where number x stands on the torus, by the marks of its box
-box_place : (p : Params) (x : ℕ) → Accepts p → unit p.message_bits * x ≡ 2 * half_mark p * (2 * half_box p * x)
-box_place p x ok =
+pub box_place : (p : Params) (x : ℕ) → FieldsInRange p → 2 * plaintexts p.message_bits ≤ p.poly_size → unit p.message_bits * x ≡ 2 * half_mark p * (2 * half_box p * x)
+box_place p x fields wide =
     let e : ℕ = half_mark p in
     let h : ℕ = half_box p in
     let order : 2 * e * (2 * h) * x ≡ 2 * e * (2 * h * x) = omega arith in
-    ap (λ u. u * x) (sym (budget_laws.units p ok)) ∙ order
+    ap (λ u. u * x) (sym (units p fields wide)) ∙ order
 
 room_left : (p : Params) → Accepts p →
     input_noise p + switch_bound (p.glwe_dim * p.poly_size) p.ks_base_log p.ks_level (2 ^ p.lwe_bound) + (p.lwe_dim + 1) * half_mark p
@@ -168,7 +168,7 @@ looked_up key table input ok small large x secret server below near =
     let entry : ℤ = pos (unit p.message_bits * get_or table x 0) in
     let first : distance (lwe_phase (k * n) (flat n bits) (of_words input) -ℤ pos (2 * e * (2 * h * x))) ≤ input_noise p =
     subst (λ (m : ℕ). m ≤ input_noise p)
-    (ap (λ m. distance (lwe_phase (length large) (of_words large) (of_words input) -ℤ pos m)) (box_place p x ok)
+    (ap (λ m. distance (lwe_phase (length large) (of_words large) (of_words input) -ℤ pos m)) (box_place p x ok.fields ok.wide)
     ∙ near_flat n k large input (of_words input) (pos (2 * e * (2 * h * x))) secret.large_size (λ u _. refl)) near in
     let last : distance (lwe_phase (k * n) (flat n bits) (extracted_by key table input) -ℤ entry)
     ≤ d * turn_bound n k p.pbs_base_log p.pbs_level (2 ^ p.glwe_bound) =

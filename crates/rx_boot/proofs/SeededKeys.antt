@@ -1,27 +1,30 @@
 -- Server keys whose masks a seed draws: their sizes and bodies, and that each made key is one.
 use Rattle.std.proofs.Common.{◌≡◌, ℕ, ◌+◌, ◌*◌, ◌/◌, ◌%◌, ◌<◌, ◌≤◌, ◌^◌, sym, ◌∙◌, ap, arith, List, ◌++◌, length, take, drop}
+use Rattle.std.specs.List.{range_with_len, flat_map}
 use Rattle.std.proofs.Math.Nat.{mul-le-mul_left}
 use Rattle.std.proofs.lemmas.List.{length-append, length-take-le, length-drop, take-append-drop, take_at, drop_at}
 use Rattle.rx_torus.specs.Streams.{stream_of}
 use Rattle.rx_torus.specs.Kinds.{stream_number}
 use Rattle.rx_torus.specs.declared.kind.StreamKind.TheVariants.{BootNoise}
 use Rattle.rx_params.specs.declared.params.Params.{Params}
+use Rattle.rx_params.specs.declared.rotation.Rotation.TheVariants.{Bits}
 use Rattle.rx_params.specs.Acceptance.{FieldsInRange, Accepts}
 use Rattle.rx_params.specs.Derived.{large_dim}
 use Rattle.rx_lwe.specs.Secret.{small_key, large_key}
 use Rattle.rx_lwe.specs.SwitchKeys.{SwitchRows, IsSized, switch_key, switch_size, switch_key_words}
 use Rattle.rx_lwe.specs.Seeded.{drawn_words, row_bodies, seeded_switch, switch_bodies, switch_row_count}
 use Rattle.rx_lwe.proofs.Keys.{small_key-length}
-use Rattle.rx_lwe.proofs.SeededRows.{seeded_rows-length, row_bodies-length, seeded_rows-bodies, rows-seeded}
-use Rattle.rx_lwe.proofs.SeededSwitch.{seeded_switch-length, switch_bodies-length, seeded_switch-bodies, switch_key_words-seeded}
+use Rattle.rx_lwe.proofs.SeededRows.{seeded_rows-length, row_bodies-length, seeded_rows-bodies, rows-bodies, rows-seeded}
+use Rattle.rx_lwe.proofs.SeededSwitch.{seeded_switch-length, switch_bodies-length, seeded_switch-bodies, switch_key_words-bodies, switch_key_words-seeded}
 use Rattle.rx_glwe.specs.Sizes.{glwe_size}
 use Rattle.rx_glwe.proofs.DrawnMasks.{glwe_row-split, glwe_row-body}
-use Rattle.rx_boot.specs.BootKeys.{boot_row_count, boot_size, row_hidden, boot_row, numbered_row, boot_key_words}
+use Rattle.rx_boot.specs.BootKeys.{boot_row_count, boot_size, row_hidden, key_row, numbered_row, key_rows, boot_key_words}
 use Rattle.rx_boot.specs.ServerKeys.{ServerWords, server_key}
 use Rattle.rx_boot.specs.Seeded.{boot_body_size, body_size, boot_masks, seeded_boot, boot_bodies, key_of_bodies, key_bodies, redrawn_key}
+use Rattle.rx_boot.specs.FreshRows.{KeySeeds, fresh_boot_bodies, fresh_switch_bodies}
 use Rattle.rx_boot.specs.SeededLaws.{SeededKeyLaws}
 use Rattle.rx_boot.proofs.Sizes.{some_coefficients, row_number, row_number-of}
-use Rattle.rx_boot.proofs.RowWords.{boot_key_words-length}
+use Rattle.rx_boot.proofs.RowWords.{key_rows-length}
 use Rattle.rx_boot.proofs.MadeKeys.{boot_size-few, all_words}
 
 -- ---- counts
@@ -71,12 +74,12 @@ seeded_boot-bodies p mask_seed bodies count =
 
 -- a row of a made key, after its masks
 abbrev made_body : Params → List ℕ → List ℕ → List ℕ → List ℕ → ℕ → List ℕ
-made_body p small large mask_seed noise_seed row = drop (large_dim p) (numbered_row p small large mask_seed noise_seed row)
+made_body p small large mask_seed noise_seed row = drop (large_dim p) (numbered_row Bits p small large mask_seed noise_seed row)
 
 made_row : (p : Params) (small large mask_seed noise_seed : List ℕ) (row : ℕ) → 0 < p.poly_size →
-    numbered_row p small large mask_seed noise_seed row
+    numbered_row Bits p small large mask_seed noise_seed row
     ≡ drawn_words (large_dim p) (boot_masks mask_seed row) ++ made_body p small large mask_seed noise_seed row
-unfolding boot_row
+unfolding key_row
 made_row p small large mask_seed noise_seed row some =
     let k : ℕ = p.glwe_dim + 1 in
     let l : ℕ = p.pbs_level in
@@ -88,7 +91,7 @@ made_row p small large mask_seed noise_seed row some =
 
 made_body-length : (p : Params) (small large mask_seed noise_seed : List ℕ) (row : ℕ) → 0 < p.poly_size →
     length (made_body p small large mask_seed noise_seed row) ≡ p.poly_size
-unfolding boot_row
+unfolding key_row
 made_body-length p small large mask_seed noise_seed row some =
     let k : ℕ = p.glwe_dim + 1 in
     let l : ℕ = p.pbs_level in
@@ -96,13 +99,24 @@ made_body-length p small large mask_seed noise_seed row some =
     glwe_row-body p large (boot_masks mask_seed number) (stream_of noise_seed (stream_number BootNoise number))
     (row_hidden p small large (row / (k * l)) (row / l % k) (row % l)) some
 
+-- the bodies of a made key are those of its rows
+boot_key_words-bodies : (p : Params) (small large mask_seed noise_seed : List ℕ) → 0 < p.poly_size →
+    boot_bodies p (boot_key_words p small large mask_seed noise_seed)
+    ≡ flat_map (made_body p small large mask_seed noise_seed) (range_with_len 0 (boot_row_count p))
+unfolding boot_bodies key_rows
+boot_key_words-bodies p small large mask_seed noise_seed some =
+    rows-bodies (numbered_row Bits p small large mask_seed noise_seed) (boot_masks mask_seed)
+    (made_body p small large mask_seed noise_seed) (large_dim p) p.poly_size (boot_row_count p)
+    (λ r _. made_row p small large mask_seed noise_seed r some)
+    (λ r _. made_body-length p small large mask_seed noise_seed r some)
+
 -- the masks of a made key are those that its seed draws
 boot_key_words-seeded : (p : Params) (small large mask_seed noise_seed : List ℕ) → 0 < p.poly_size →
     seeded_boot p mask_seed (boot_bodies p (boot_key_words p small large mask_seed noise_seed))
     ≡ boot_key_words p small large mask_seed noise_seed
-unfolding seeded_boot boot_bodies boot_key_words
+unfolding seeded_boot boot_bodies key_rows
 boot_key_words-seeded p small large mask_seed noise_seed some =
-    rows-seeded (numbered_row p small large mask_seed noise_seed) (boot_masks mask_seed)
+    rows-seeded (numbered_row Bits p small large mask_seed noise_seed) (boot_masks mask_seed)
     (made_body p small large mask_seed noise_seed) (large_dim p) p.poly_size (boot_row_count p)
     (λ r _. made_row p small large mask_seed noise_seed r some)
     (λ r _. made_body-length p small large mask_seed noise_seed r some)
@@ -149,9 +163,25 @@ made_redrawn p client_seed mask_seed fields =
     let switch : List ℕ = switch_key_words p large small mask_seed client_seed in
     let key : List ℕ → List ℕ → ServerWords = λ b s. record { params = p; boot = b; switch = s } in
     two_parts p mask_seed (boot_bodies p boot) (switch_bodies p switch)
-    (boot_bodies-length p boot (boot_key_words-length p small large mask_seed client_seed some))
+    (boot_bodies-length p boot (key_rows-length Bits p small large mask_seed client_seed some))
     ∙ ap (λ b. key b (seeded_switch p mask_seed (switch_bodies p switch))) (boot_key_words-seeded p small large mask_seed client_seed some)
     ∙ ap (key boot) (switch_key_words-seeded p large small mask_seed client_seed (small_key-length p client_seed))
+
+-- the bodies of a made key are those of its rows, in order
+made_bodies : (s : KeySeeds) → FieldsInRange s.params →
+    key_bodies (server_key s.params s.client_seed s.mask_seed)
+    ≡ fresh_boot_bodies s (boot_row_count s.params) ++ fresh_switch_bodies s (switch_row_count s.params)
+unfolding server_key fresh_boot_bodies fresh_switch_bodies
+made_bodies s fields =
+    let p : Params = s.params in
+    let small : List ℕ = small_key p s.client_seed in
+    let large : List ℕ = large_key p s.client_seed in
+    let switch : List ℕ = switch_key_words p large small s.mask_seed s.client_seed in
+    let boot : List ℕ = flat_map (made_body p small large s.mask_seed s.client_seed) (range_with_len 0 (boot_row_count p)) in
+    ap (λ xs. xs ++ switch_bodies p switch)
+    (boot_key_words-bodies p small large s.mask_seed s.client_seed (some_coefficients p fields))
+    ∙ ap (λ ys. boot ++ ys)
+    (switch_key_words-bodies p large small s.mask_seed s.client_seed (small_key-length p s.client_seed))
 
 -- the bodies that a code takes out of the two lists of a key
 pub bodies_are : (p : Params) (boot switch xs ys out : List ℕ) (rows switch_rows : ℕ) →
@@ -183,4 +213,5 @@ seeded_key_laws = record {
       seeded_switch-length p mask_seed (drop (boot_body_size p) bodies) (back-length p bodies count);
   body_words = key_bodies-length;
   made = made_redrawn;
+  made_bodies = made_bodies;
 }

@@ -143,7 +143,7 @@ turned_once p rows switched xs ys zs f i m amount size is_mark before away added
     (subst (λ (h : ℕ). AreParts n h new zs) one added_by)))
 
 -- ---- the extraction
-extracted_rotation : (p : Params) (f : ℕ → ℕ → ℤ) (xs : List ℕ) → 0 < p.poly_size → AreParts p.poly_size (p.glwe_dim + 1) f xs →
+pub extracted_rotation : (p : Params) (f : ℕ → ℕ → ℤ) (xs : List ℕ) → 0 < p.poly_size → AreParts p.poly_size (p.glwe_dim + 1) f xs →
     extracted_words p xs ≡ words_below (large_dim p + 1) (extracted p.poly_size p.glwe_dim f)
 unfolding large_dim
 extracted_rotation p f xs some are =

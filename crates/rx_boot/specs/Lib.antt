@@ -5,4 +5,5 @@ pub mod Laws
 pub mod Noise
 pub mod NoiseLaws
 pub mod Seeded
+pub mod FreshRows
 pub mod SeededLaws

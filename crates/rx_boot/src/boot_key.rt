@@ -4,9 +4,9 @@ ghost use Rattle.rx_params.specs.Acceptance.{FieldsInRange};
 ghost use Rattle.rx_params.specs.Derived.{large_dim};
 ghost use Rattle.rx_boot.specs.BootKeys.{boot_key_words, boot_size};
 
-use crate::rows::made_words;
+use crate::encrypt_bits;
 use rx_lwe::SecretKey;
-use rx_params::Params;
+use rx_params::{Params, Rotation};
 use rx_torus::Words;
 use std::alloc::{AllocError, Global};
 use std::marker::Model;
@@ -46,7 +46,8 @@ impl BootKey {
             key ≡ boot_key_words p.now small.now large.now mask_seed.now noise_seed.now) }
         ensures size { IfOk result (λ key. length key ≡ boot_size p.now) }
     {
-        let words = made_words(alloc, p, small, large, mask_seed, noise_seed)?;
+        let bits = small.bits();
+        let words = encrypt_bits(alloc, p, Rotation::Bits, bits, large, mask_seed, noise_seed)?;
         Ok(BootKey {
             words: Words::from_vec(words),
         })

@@ -5,6 +5,7 @@
 mod boot_key;
 mod bootstrap;
 mod clear;
+mod fresh_rows;
 mod hidden;
 mod laws;
 mod marks;
@@ -17,7 +18,12 @@ mod word_counts;
 
 pub use boot_key::BootKey;
 pub use bootstrap::bootstrap_into;
+pub use fresh_rows::FreshRows;
+pub use hidden::hide_number;
 pub use laws::{budget_laws, lookup_laws};
+pub use marks::mark_of;
+pub use rotation::start_rotation;
+pub use rows::encrypt_bits;
 pub use scratch::BootScratch;
 pub use seeded::{body_words, seeded_key_laws};
 pub use server_key::{ServerKey, server_key_laws};

@@ -8,7 +8,7 @@ use rx_lwe::mod_switch;
 use rx_params::Params;
 
 /// The mark nearest to a word, of the `2 * poly_size` marks of a set.
-pub(crate) fn mark_of(p: &Params, word: u64) -> u32
+pub fn mark_of(p: &Params, word: u64) -> u32
     requires { FieldsInRange p.now }
     ensures value { result ≡ mark (half_mark p.now) (2 * p.now.poly_size) word }
     ensures bound { result < 2 * p.now.poly_size }

@@ -1,5 +1,5 @@
 //! The blind rotation (CJP, blind rotation).
-ghost use Rattle.std.specs.Prelude.{◌≡◌, ℕ, ◌+ℤ◌, ◌+◌, ◌-◌, ◌*◌, ◌<◌, length, get_or};
+ghost use Rattle.std.specs.Prelude.{◌≡◌, ℕ, ◌+ℤ◌, ◌+◌, ◌-◌, ◌*◌, ◌<◌, ◌≤◌, length, get_or};
 ghost use Rattle.rx_laws.specs.Decode.{plaintexts};
 ghost use Rattle.rx_laws.specs.Torus.{word};
 ghost use Rattle.rx_ring.specs.Polynomial.{turns};
@@ -46,7 +46,7 @@ pub(crate) fn rotate(
     let n = p.poly_size as usize;
     let count = p.glwe_dim as usize + 1;
     let width = count * p.pbs_level as usize * (count * n);
-    start(p, table, switched[p.lwe_dim as usize], away, turning);
+    start_rotation(p, table, switched[p.lwe_dim as usize], away, turning);
     for i in 0..p.lwe_dim as usize {
         let bit = &rows[i * width..(i + 1) * width];
         turn(product, p, bit, mark_of(p, switched[i]), away, turning);
@@ -54,9 +54,10 @@ pub(crate) fn rotate(
 }
 
 /// The ciphertext before the first turn: its masks are 0, and its body is the accumulator of the table,
-/// turned back by the mark of the switched body. There is room for a polynomial.
-fn start(p: &Params, table: &[u8], body: u64, room: &mut [u64], turning: &mut [u64])
-    requires accepted { Accepts p.now }
+/// turned back by the mark of the switched body, a word. There is room for a polynomial.
+pub fn start_rotation(p: &Params, table: &[u8], body: u64, room: &mut [u64], turning: &mut [u64])
+    requires fields { FieldsInRange p.now }
+    requires wide { 2 * plaintexts p.now.message_bits ≤ p.now.poly_size }
     requires table_size { length table.now ≡ plaintexts p.now.message_bits }
     requires room_size { length room.old ≡ glwe_size p.now }
     requires turning_size { length turning.old ≡ glwe_size p.now }

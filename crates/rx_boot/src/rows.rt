@@ -1,40 +1,42 @@
-//! The rows of a bootstrapping key, in the order of their numbers (docs/FORMATS.md, Random streams).
-ghost use Rattle.std.specs.Prelude.{◌≡◌, ◌<◌, ◌*◌, IfOk, length};
+//! The rows of the bits that a key encrypts, in the order of their numbers (docs/FORMATS.md, Random streams).
+ghost use Rattle.std.specs.Prelude.{◌≡◌, ◌<◌, ◌≤◌, ◌*◌, IfOk, length};
 ghost use Rattle.rx_params.specs.Acceptance.{FieldsInRange};
-ghost use Rattle.rx_params.specs.Derived.{large_dim};
+ghost use Rattle.rx_params.specs.Derived.{large_dim, encrypted_count};
 ghost use Rattle.rx_glwe.specs.Sizes.{glwe_size};
-ghost use Rattle.rx_boot.specs.BootKeys.{boot_key_words, boot_row_count, numbered_row};
+ghost use Rattle.rx_boot.specs.BootKeys.{key_rows, key_row_count, numbered_row, mask_kind, noise_kind, rows_size};
 
 use crate::hidden::hide;
 use rx_glwe::encrypt_row_into;
 use rx_lwe::SecretKey;
-use rx_params::Params;
+use rx_params::{Params, Rotation};
 use rx_torus::{Stream, StreamKind};
 use std::alloc::{AllocError, Global};
 
-/// The words of the bootstrapping key of two keys, its masks drawn from one seed and its noises from
-/// another.
-pub(crate) fn made_words(
+/// The words of the rows of a rotation, `glwe_dim + 1` polynomials each: for each bit `(glwe_dim + 1) *
+/// pbs_level` rows that encrypt it under the large key. There are as many bits as `encrypted_count` of the
+/// rotation says. The masks come from one seed and the noises from another. The error is want of memory.
+pub fn encrypt_bits(
     alloc: Global,
     p: &Params,
-    small: &SecretKey,
+    rotation: Rotation,
+    bits: &[u64],
     large: &SecretKey,
     mask_seed: &[u8; 32],
     noise_seed: &[u8; 32],
 ) -> Result<Vec<u64>, AllocError>
     requires fields { FieldsInRange p.now }
-    requires small_size { length small.now ≡ p.now.lwe_dim }
+    requires bits_size { length bits.now ≡ encrypted_count rotation p.now }
     requires large_size { length large.now ≡ large_dim p.now }
     ensures { IfOk result (λ words. words.items
-        ≡ boot_key_words p.now small.now large.now mask_seed.now noise_seed.now) }
+        ≡ key_rows rotation p.now bits.now large.now mask_seed.now noise_seed.now) }
 {
     let n = p.poly_size as usize;
     let count = p.glwe_dim as usize + 1;
-    let rows = p.lwe_dim as usize * (count * p.pbs_level as usize);
+    let rows = bits.len() * (count * p.pbs_level as usize);
     let mut room = vec![in alloc; 0; 4 * n]?;
     let mut words = vec![in alloc; 0; rows * (count * n)]?;
     write_rows(
-        p, small, large, mask_seed, noise_seed, &mut room, &mut words,
+        p, rotation, bits, large, mask_seed, noise_seed, &mut room, &mut words,
     );
     Ok(words)
 }
@@ -42,7 +44,8 @@ pub(crate) fn made_words(
 /// Writes all rows, in order. There is room for four polynomials.
 fn write_rows(
     p: &Params,
-    small: &SecretKey,
+    rotation: Rotation,
+    bits: &[u64],
     large: &SecretKey,
     mask_seed: &[u8; 32],
     noise_seed: &[u8; 32],
@@ -50,25 +53,28 @@ fn write_rows(
     out: &mut [u64],
 )
     requires fields { FieldsInRange p.now }
-    requires small_size { length small.now ≡ p.now.lwe_dim }
+    requires bits_size { length bits.now ≡ encrypted_count rotation p.now }
     requires large_size { length large.now ≡ large_dim p.now }
     requires room { length room.old ≡ 4 * p.now.poly_size }
-    requires size { length out.old ≡ boot_row_count p.now * glwe_size p.now }
-    ensures { out.new ≡ boot_key_words p.now small.now large.now mask_seed.now noise_seed.now }
+    requires size { length out.old ≡ key_row_count rotation p.now * glwe_size p.now }
+    ensures { out.new ≡ key_rows rotation p.now bits.now large.now mask_seed.now noise_seed.now }
 {
     let width = (p.glwe_dim as usize + 1) * p.poly_size as usize;
-    for row in 0..p.lwe_dim * ((p.glwe_dim + 1) * p.pbs_level) {
+    for row in 0..rotation.encrypted_count(p) * ((p.glwe_dim + 1) * p.pbs_level) {
         let place = row as usize * width;
         let words = &mut out[place..place + width];
-        write_row(p, small, large, mask_seed, noise_seed, row, room, words);
+        write_row(
+            p, rotation, bits, large, mask_seed, noise_seed, row, room, words,
+        );
     }
 }
 
 /// Writes the row of a number. There is room for four polynomials: what the row hides, and what encrypts
 /// it.
-fn write_row(
+pub(crate) fn write_row(
     p: &Params,
-    small: &SecretKey,
+    rotation: Rotation,
+    bits: &[u64],
     large: &SecretKey,
     mask_seed: &[u8; 32],
     noise_seed: &[u8; 32],
@@ -77,16 +83,34 @@ fn write_row(
     out: &mut [u64],
 )
     requires fields { FieldsInRange p.now }
-    requires small_size { length small.now ≡ p.now.lwe_dim }
+    requires bits_size { length bits.now ≡ encrypted_count rotation p.now }
     requires large_size { length large.now ≡ large_dim p.now }
-    requires place { row < boot_row_count p.now }
+    requires place { row < key_row_count rotation p.now }
     requires room { length room.old ≡ 4 * p.now.poly_size }
     requires size { length out.old ≡ glwe_size p.now }
-    ensures { out.new ≡ numbered_row p.now small.now large.now mask_seed.now noise_seed.now row }
+    ensures { out.new ≡ numbered_row rotation p.now bits.now large.now mask_seed.now noise_seed.now row }
 {
     let (hidden, scratch) = room.split_at_mut(p.poly_size as usize);
-    hide(p, small, large, row, hidden);
-    let mut mask = Stream::new(mask_seed, StreamKind::BootMask.stream_number(row));
-    let mut noise = Stream::new(noise_seed, StreamKind::BootNoise.stream_number(row));
+    hide(p, rotation, bits, large, row, hidden);
+    let mut mask = Stream::new(mask_seed, mask_kind(rotation).stream_number(row));
+    let mut noise = Stream::new(noise_seed, noise_kind(rotation).stream_number(row));
     encrypt_row_into(p, large, &mut mask, &mut noise, hidden, out, scratch);
+}
+
+fn mask_kind(rotation: Rotation) -> StreamKind
+    ensures { result ≡ mask_kind rotation }
+{
+    match rotation {
+        Rotation::Bits => StreamKind::BootMask,
+        Rotation::Pairs => StreamKind::PairMask,
+    }
+}
+
+fn noise_kind(rotation: Rotation) -> StreamKind
+    ensures { result ≡ noise_kind rotation }
+{
+    match rotation {
+        Rotation::Bits => StreamKind::BootNoise,
+        Rotation::Pairs => StreamKind::PairNoise,
+    }
 }

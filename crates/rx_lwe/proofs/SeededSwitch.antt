@@ -1,5 +1,6 @@
 -- Switch keys whose masks a seed draws: their sizes and bodies, and that each made key is one.
 use Rattle.std.proofs.Common.{◌≡◌, ℕ, suc, ℤ, pos, ◌+◌, ◌-◌, ◌*◌, ◌/◌, ◌%◌, ◌^◌, sym, ◌∙◌, ap, arith, List, ◌++◌, length, get_or, take, drop}
+use Rattle.std.specs.List.{range_with_len, flat_map}
 use Rattle.std.proofs.lemmas.List.{take-append-drop, get_or-take, length-take-le, length-drop}
 use Rattle.rx_laws.specs.Torus.{word}
 use Rattle.rx_laws.specs.Words.{of_words, words_below}
@@ -14,7 +15,7 @@ use Rattle.rx_lwe.specs.Lwe.{encrypted}
 use Rattle.rx_lwe.specs.SwitchKeys.{switch_size, switch_row, switch_key_words}
 use Rattle.rx_lwe.specs.Seeded.{drawn_words, seeded_switch, switch_bodies, switch_masks, switch_row_count}
 use Rattle.rx_lwe.proofs.Made.{encrypted-length, switch_row-length}
-use Rattle.rx_lwe.proofs.SeededRows.{seeded_rows-length, row_bodies-length, seeded_rows-bodies, rows-seeded}
+use Rattle.rx_lwe.proofs.SeededRows.{seeded_rows-length, row_bodies-length, seeded_rows-bodies, rows-bodies, rows-seeded}
 
 -- ---- the masks of what is encrypted are drawn
 
@@ -80,6 +81,18 @@ made_row p large small mask_seed noise_seed row size =
     let noise : Draws = stream_of noise_seed (stream_number SwitchNoise row) in
     encrypted-split small mask noise p.lwe_bound message
     ∙ ap (λ (n : ℕ). drawn_words n mask ++ drop n (encrypted small mask noise p.lwe_bound message)) size
+
+-- the bodies of a made key are those of its rows
+pub switch_key_words-bodies : (p : Params) (large small mask_seed noise_seed : List ℕ) → length small ≡ p.lwe_dim →
+    switch_bodies p (switch_key_words p large small mask_seed noise_seed)
+    ≡ flat_map (λ row. drop p.lwe_dim (switch_row p large small mask_seed noise_seed row)) (range_with_len 0 (switch_row_count p))
+unfolding switch_bodies switch_key_words
+switch_key_words-bodies p large small mask_seed noise_seed size =
+    rows-bodies (switch_row p large small mask_seed noise_seed) (switch_masks mask_seed)
+    (made_body p large small mask_seed noise_seed) p.lwe_dim 1 (switch_row_count p)
+    (λ r _. made_row p large small mask_seed noise_seed r size)
+    (λ r _. length-drop p.lwe_dim (switch_row p large small mask_seed noise_seed r)
+    ∙ omega (arith, switch_row-length p large small mask_seed noise_seed r size))
 
 -- the masks of a made key are those that its seed draws
 pub switch_key_words-seeded : (p : Params) (large small mask_seed noise_seed : List ℕ) → length small ≡ p.lwe_dim →

@@ -14,6 +14,7 @@ mod switch;
 
 pub use encrypt::encrypt_into;
 pub use key::SecretKey;
+pub use made_rows::switch_row_into;
 pub use modulus::mod_switch;
 pub use phases::{decode, phase, unit};
 pub use scaled::add_scaled;

@@ -50,12 +50,14 @@ fn write_rows(
     for row in 0..p.glwe_dim * p.poly_size * p.ks_level {
         let start = row as usize * width;
         let words = &mut out[start..start + width];
-        write_row(p, large, small, mask_seed, noise_seed, row, words);
+        switch_row_into(p, large, small, mask_seed, noise_seed, row, words);
     }
 }
 
-/// Writes one row: the message is a bit of the large key at the weight of a level.
-fn write_row(
+/// Writes the row of a number, from 0: `lwe_dim` mask words and the body. Row `u * ks_level + t` hides bit u of
+/// the large key at the weight of level t, with masks from one seed and the noise from another. The large key has
+/// `glwe_dim * poly_size` bits, the small one `lwe_dim`, and `out` has `lwe_dim + 1` words.
+pub fn switch_row_into(
     p: &Params,
     large: &SecretKey,
     small: &SecretKey,

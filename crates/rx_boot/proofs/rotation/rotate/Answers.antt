@@ -9,8 +9,8 @@ use Rattle.rx_boot.proofs.rotation.rotate.Goals as goal
 
 pub loop-i-init : goal.loop-i-init
 loop-i-init c = record {
-  turned = start_are c.args.p.now c.args.rows.now c.args.switched.now c.args.table.now c.start.new.turning
-      (c.start.auto.turning ∙ c.requires.turning_size) c.start.ensures.masks c.start.ensures.body;
+  turned = start_are c.args.p.now c.args.rows.now c.args.switched.now c.args.table.now c.start_rotation.new.turning
+      (c.start_rotation.auto.turning ∙ c.requires.turning_size) c.start_rotation.ensures.masks c.start_rotation.ensures.body;
   room = c.requires.product_room;
 }
 

@@ -23,8 +23,8 @@ slice_bounds-words-end c =
     let room = row_room c.loop-row.row (large_dim p * p.ks_level) (p.lwe_dim + 1) (omega (arith, rows_are p)) in
     omega (arith, room, c.requires.room)
 
-pub write_row-requires-clause-place : goal.write_row-requires-clause-place
-write_row-requires-clause-place c = omega (arith, rows_are c.args.p.now)
+pub switch_row_into-requires-clause-place : goal.switch_row_into-requires-clause-place
+switch_row_into-requires-clause-place c = omega (arith, rows_are c.args.p.now)
 
 pub loop-row-preserved : goal.loop-row-preserved
 loop-row-preserved c =
@@ -33,10 +33,10 @@ loop-row-preserved c =
     let width : ℕ = p.lwe_dim + 1 in
     let room = row_room row (large_dim p * p.ks_level) width (omega (arith, rows_are p)) in
     rows-written (switch_row p c.args.large.now c.args.small.now c.args.mask_seed.now c.args.noise_seed.now) row width (row * width)
-    ((row + 1) * width) (row * width + width - row * width) c.loop-row.out c.write_row.new.out refl refl
+    ((row + 1) * width) (row * width + width - row * width) c.loop-row.out c.switch_row_into.new.out refl refl
     (omega (arith, room, c.requires.room))
-    (ap length c.write_row.ensures ∙ switch_row-length p c.args.large.now c.args.small.now c.args.mask_seed.now c.args.noise_seed.now row c.requires.small_size)
-    c.loop-row.invariant c.write_row.ensures
+    (ap length c.switch_row_into.ensures ∙ switch_row-length p c.args.large.now c.args.small.now c.args.mask_seed.now c.args.noise_seed.now row c.requires.small_size)
+    c.loop-row.invariant c.switch_row_into.ensures
 
 pub returns : goal.returns
 unfolding switch_key_words

@@ -1,7 +1,7 @@
 use Rattle.std.proofs.Common.{ℕ, ◌∙◌, arith}
 use Rattle.std.proofs.lemmas.List.{length-take}
 use Rattle.rx_boot.proofs.Turning.{mask_words, body_words, turned_back}
-use Rattle.rx_boot.proofs.rotation.start.Goals as goal
+use Rattle.rx_boot.proofs.rotation.start_rotation.Goals as goal
 
 pub returns-clause-masks : goal.returns-clause-masks
 returns-clause-masks c =

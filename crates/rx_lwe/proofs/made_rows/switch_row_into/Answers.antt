@@ -2,7 +2,7 @@ use Rattle.std.proofs.Common.{ℕ, suc, ◌-◌, ◌*◌, ◌/◌, ◌%◌, ◌^
 use Rattle.std.proofs.lemmas.Nat.{div_below}
 use Rattle.rx_params.specs.Derived.{large_dim}
 use Rattle.rx_lwe.proofs.Made.{message_whole, switch_row-is}
-use Rattle.rx_lwe.proofs.made_rows.write_row.Goals as goal
+use Rattle.rx_lwe.proofs.made_rows.switch_row_into.Goals as goal
 
 pub returns : goal.returns
 returns c =
