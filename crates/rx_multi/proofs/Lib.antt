@@ -1,0 +1,5 @@
+pub mod PairProducts
+pub mod Keys
+pub mod ChosenParts
+pub mod Turning
+pub mod Lookup

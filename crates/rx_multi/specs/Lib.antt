@@ -1,0 +1,4 @@
+pub mod PairKeys
+pub mod Turns
+pub mod PairBootstrap
+pub mod Laws
