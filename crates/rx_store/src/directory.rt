@@ -8,7 +8,7 @@ ghost use Rattle.rx_store.specs.StoreCalls.{ReadGives, ReadCounts, WriteCounts};
 use crate::whole_writes::write_whole;
 use crate::{ReadError, Store, WriteError};
 use std::alloc::{AllocError, Global};
-use std::fs;
+use std::fs::{self, OpenFile};
 use std::io::Read;
 use std::marker::Model;
 use std::rt::Files;
@@ -92,15 +92,33 @@ fn read_file<F: Files>(
     let Ok(mut file) = fs::open(files, name) else {
         return Err(ReadError::Failed);
     };
-    read_to_limit(&mut file, alloc, limit)
+    let size = told_size(&file);
+    read_to_limit(&mut file, alloc, limit, size)
 }
 
-/// Reads to the end, or to the first byte past the limit.
-fn read_to_limit<R: Read>(reader: &mut R, alloc: Global, limit: u64) -> Result<Vec<u8>, ReadError>
+/// The bytes of a file that the system tells, or 0.
+fn told_size<F: OpenFile>(file: &F) -> u64 {
+    match file.metadata() {
+        Ok(told) => told.len(),
+        Err(_) => 0,
+    }
+}
+
+/// Reads to the end, or to the first byte past the limit. Memory is taken for `size` bytes at once, and for more where
+/// more are read.
+fn read_to_limit<R: Read>(
+    reader: &mut R,
+    alloc: Global,
+    limit: u64,
+    size: u64,
+) -> Result<Vec<u8>, ReadError>
     ensures up_to { ReadsUpTo limit result }
     ensures all { GivesAllLeft (R.remaining reader.old) limit result }
 {
-    let mut bytes = Vec::new(alloc);
+    let mut bytes = match Vec::with_capacity(alloc, size.min(limit) as usize) {
+        Ok(bytes) => bytes,
+        Err(error) => return Err(ReadError::Memory(error)),
+    };
     let mut chunk = [0u8; CHUNK];
     while bytes.len() as u64 <= limit {
         let left = (limit - bytes.len() as u64).saturating_add(1);
