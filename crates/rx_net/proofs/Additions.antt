@@ -1,6 +1,7 @@
 -- What an addition to a legal net makes of its first fault, of its tags and of its values.
 use Rattle.std.proofs.Common.{◌≡◌, ℕ, ℤ, suc, ◌+◌, ◌<◌, ◌≤◌, List, [], ◌∷◌, ◌++◌, length, get_or, map, Bool, true, false, refl, sym, ◌∙◌, ap, arith, subst, length-append, add-one, Option, Some, None, eq-eqb}
 use Rattle.std.specs.Prelude.{◌&&◌, ◌||◌, ◌==◌, not, nat_le, nat_lt, IsTrue}
+use Rattle.std.proofs.Math.Seq.{take-append_seam}
 use Rattle.std.proofs.lemmas.List.{get_or_append_left}
 use Rattle.std.specs.Option.{option_or}
 use Rattle.std.proofs.lemmas.Bool.{and_parts}
@@ -138,6 +139,7 @@ job_extends net j = record {
   space = refl;
   inputs = refl;
   outputs = refl;
+  jobs = take-append_seam net.jobs (j ∷ []);
   cells_grow = omega (arith, job_cell_count net j);
   jobs_grow = omega (arith, job_cell_count net j, length-append net.jobs (j ∷ []));
   degrees = job_degrees net j;

@@ -1,6 +1,9 @@
 -- Nets that grow.
-use Rattle.std.proofs.Common.{ℕ, List, refl, sym, ◌∙◌, arith, subst}
+use Rattle.std.proofs.Common.{◌≡◌, ◌≤◌, ℕ, List, take, drop, length, refl, sym, ap, ◌∙◌, arith, subst}
+use Rattle.std.proofs.Math.Seq.{take-length}
+use Rattle.std.proofs.lemmas.List.{take-append-le, take-append-drop}
 use Rattle.rx_net.specs.declared.net.NetInput.{NetInput}
+use Rattle.rx_net.specs.declared.net.Job.{Job}
 use Rattle.rx_net.specs.declared.net.Net.{Net}
 use Rattle.rx_net.specs.Cells.{Within}
 use Rattle.rx_net.specs.Growth.{Extends}
@@ -10,6 +13,7 @@ extends_same net = record {
   space = refl;
   inputs = refl;
   outputs = refl;
+  jobs = take-length net.jobs;
   cells_grow = omega arith;
   jobs_grow = refl;
   degrees = λ c p. refl;
@@ -18,11 +22,21 @@ extends_same net = record {
   values = λ xs w c p. refl;
 }
 
+-- a list that begins one that begins a third begins the third
+begins_onward : (xs ys zs : List Job) → take (length xs) ys ≡ xs → take (length ys) zs ≡ ys → length xs ≤ length ys → take (length xs) zs ≡ xs
+begins_onward xs ys zs a b p =
+    let n : ℕ = length ys in
+    ap (take (length xs)) (sym (take-append-drop n zs))
+    ∙ take-append-le (length xs) (take n zs) (drop n zs) (subst (λ (l : List Job). length xs ≤ length l) (sym b) p)
+    ∙ ap (take (length xs)) b
+    ∙ a
+
 pub extends_onward : (first second third : Net) → Extends first second → Extends second third → Extends first third
 extends_onward first second third a b = record {
   space = b.space ∙ a.space;
   inputs = b.inputs ∙ a.inputs;
   outputs = b.outputs ∙ a.outputs;
+  jobs = begins_onward first.jobs second.jobs third.jobs a.jobs b.jobs (omega (arith, a.cells_grow, a.jobs_grow));
   cells_grow = omega (arith, a.cells_grow, b.cells_grow);
   jobs_grow = omega (arith, a.jobs_grow, b.jobs_grow);
   degrees = λ c p. b.degrees c (omega (arith, a.cells_grow)) ∙ a.degrees c p;

@@ -1,5 +1,5 @@
 -- A net that grows.
-use Rattle.std.specs.Prelude.{ℕ, ℤ, suc, ◌+◌, ◌<◌, ◌≤◌, ◌≡◌, List, map, length, get_or}
+use Rattle.std.specs.Prelude.{ℕ, ℤ, suc, ◌+◌, ◌<◌, ◌≤◌, ◌≡◌, List, map, take, length, get_or}
 use Rattle.rx_net.specs.declared.term.Term.{Term}
 use Rattle.rx_net.specs.declared.net.Net.{Net}
 use Rattle.rx_net.specs.Tags.{value_of, greatest_of, natural}
@@ -11,6 +11,7 @@ pub record Extends (old new : Net) : Type 0 where
   pub space : new.space ≡ old.space
   pub inputs : new.inputs ≡ old.inputs
   pub outputs : new.outputs ≡ old.outputs
+  pub jobs : take (length old.jobs) new.jobs ≡ old.jobs
   pub cells_grow : cell_count old ≤ cell_count new
   pub jobs_grow : cell_count new + length old.jobs ≡ cell_count old + length new.jobs
   pub degrees : (c : ℕ) → c < cell_count old → degree new c ≡ degree old c

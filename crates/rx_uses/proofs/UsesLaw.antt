@@ -1,5 +1,5 @@
 -- Terms as nodes, and nodes as terms.
-use Rattle.std.proofs.Common.{◌≡◌, ℕ, zero, suc, ◌+◌, ◌-◌, ◌*◌, ◌<◌, ◌≤◌, Bool, cond, List, [], ◌∷◌, ◌++◌, map, length, get_or, replicate, sym, refl, ap, ◌∙◌, subst, arith, length-append, eq-eqb, ne_eqb}
+use Rattle.std.proofs.Common.{◌≡◌, ℕ, zero, suc, ◌+◌, ◌-◌, ◌*◌, ◌<◌, ◌≤◌, Bool, cond, List, [], ◌∷◌, ◌++◌, map, length, get_or, take, replicate, sym, refl, ap, ◌∙◌, subst, arith, length-append, eq-eqb, ne_eqb}
 use Rattle.std.specs.Prelude.{Contains, Some, None, pos}
 use Rattle.std.proofs.lemmas.List.{get_or_append_left, get_or-append-add, get_or-replicate, length-replicate, get_or_default, get_or-map}
 use mathlib.Core.Logic.{dite}
@@ -10,9 +10,10 @@ use Rattle.rx_net.specs.declared.net.Net.{Net}
 use Rattle.rx_net.specs.Cells.{input_cells}
 use Rattle.rx_net.specs.Legal.{Legal}
 use Rattle.rx_uses.specs.Cells.{terms_at}
+use Rattle.rx_uses.specs.Laws.{NamesAt}
 use Rattle.rx_uses.specs.Links.{cell_named}
 use Rattle.rx_uses.proofs.Legality.{lawful}
-use Rattle.rx_uses.specs.Uses.{all_terms, owners_from, naming, nodes_of, owner_of, node_at, UsesValue, IsUsesOf}
+use Rattle.rx_uses.specs.Uses.{all_terms, owners_from, naming, nodes_of, node_of, owner_of, node_at, UsesValue, IsUsesOf}
 
 -- the term i is a node of the cell that it names
 naming_has : (t : ℕ) (ts : List Term) (i c : ℕ) → i < length ts → ((d : Term) → (get_or ts i d).cell ≡ c) → Contains (naming t ts c) (t + i)
@@ -52,6 +53,7 @@ pub record IsPlace (n : ℕ) (jobs : List Job) (j k i : ℕ) : Type 0 where
   pub job : j < length jobs
   pub place : k < length (terms_at jobs j)
   pub within : i < length (all_terms jobs)
+  pub number : i ≡ length (all_terms (take j jobs)) + k
   pub same : (d : Term) → get_or (all_terms jobs) i d ≡ get_or (terms_at jobs j) k d
   pub owner : get_or (owners_from n jobs) i 0 ≡ n + j
 
@@ -60,6 +62,7 @@ place_later n x xs j k i p = let ts : List Term = x.terms in let r : List ℕ = 
   job = (let l = p.job in omega arith);
   place = p.place;
   within = (let l = p.within in omega (arith, length-append ts (all_terms xs)));
+  number = (let e = p.number in omega (arith, length-append ts (all_terms (take j xs))));
   same = λ d. get_or-append-add ts (all_terms xs) i d ∙ p.same d;
   owner = ap (λ (m : ℕ). get_or (r ++ owners_from (suc n) xs) (m + i) 0) (sym rn) ∙ (get_or-append-add r (owners_from (suc n) xs) i 0 ∙ (p.owner ∙ (let e : suc n + j ≡ n + suc j = omega arith in e)));
 }
@@ -69,6 +72,7 @@ place_first n x xs k l = let ts : List Term = x.terms in let r : List ℕ = repl
   job = omega arith;
   place = l;
   within = omega (arith, length-append ts (all_terms xs));
+  number = omega arith;
   same = λ d. get_or_append_left ts (all_terms xs) d k l;
   owner = get_or_append_left r (owners_from (suc n) xs) 0 k (omega arith) ∙ (get_or-replicate (length ts) k n 0 l ∙ (let e : n ≡ n + 0 = omega arith in e));
 }
@@ -104,6 +108,23 @@ node_operand net c q l = let n = naming_is 0 (all_terms net.jobs) c q l in let t
     let is : owner_of net y ≡ t.0 = ap (owner_of net) at ∙ (t.2.owner ∙ (let e : 0 + t.0 ≡ t.0 = omega arith in e)) in
     subst (λ (j : ℕ). (k : ℕ) × (j < length net.jobs) × (k < length (terms_at net.jobs j)) × ((d : Term) → (get_or (terms_at net.jobs j) k d).cell ≡ c)) (sym is)
     (t.1, t.2.job, t.2.place, λ d. ap (λ (z : Term). z.cell) (sym (t.2.same d)) ∙ n.names d)
+
+-- the node of a place that names the cell c is in its list
+pub node_listed : (net : Net) (j k c : ℕ) → NamesAt net j k c → (q : ℕ) × (q < length (nodes_of net c)) × (get_or (nodes_of net c) q 0 ≡ node_of net j k)
+node_listed net j k c n = let t = term_of 0 net.jobs j k n.within in
+    let h = naming_has 0 (all_terms net.jobs) t.0 c t.1.within (λ d. ap (λ (z : Term). z.cell) (t.1.same d) ∙ n.names d) in
+    (h.0, h.1, get_or_default (nodes_of net c) h.0 0 (0 + t.0) h.1 ∙ (h.2 ∙ (let e : 0 + t.0 ≡ t.0 = omega arith in e ∙ t.1.number)))
+
+-- a node of the cell c is that of a place that names c
+pub node_named : (net : Net) (c q : ℕ) → q < length (nodes_of net c) → (j : ℕ) × (k : ℕ) × NamesAt net j k c × (get_or (nodes_of net c) q 0 ≡ node_of net j k)
+node_named net c q l = let n = naming_is 0 (all_terms net.jobs) c q l in let t = place_of 0 net.jobs n.index n.within in
+    let at : get_or (nodes_of net c) q 0 ≡ n.index = n.is ∙ (let e : 0 + n.index ≡ n.index = omega arith in e) in
+    (t.0, t.1, record { within = t.2.place; names = λ d. ap (λ (z : Term). z.cell) (sym (t.2.same d)) ∙ n.names d }, at ∙ t.2.number)
+
+-- the node of a place is its job's
+pub node_owned : (net : Net) (j k : ℕ) → k < length (terms_at net.jobs j) → owner_of net (node_of net j k) ≡ j
+node_owned net j k l = let t = term_of 0 net.jobs j k l in
+    ap (owner_of net) (sym t.1.number) ∙ (t.1.owner ∙ (let e : 0 + j ≡ j = omega arith in e))
 
 length-naming : (t : ℕ) (ts : List Term) (c : ℕ) → length (naming t ts c) ≤ length ts
 length-naming t [] c = omega arith

@@ -24,6 +24,10 @@ naming t (x ∷ xs) c = cond (x.cell == c) (t ∷ naming (suc t) xs c) (naming (
 abbrev pub nodes_of : Net → ℕ → List ℕ
 nodes_of net c = naming 0 (all_terms net.jobs) c
 
+-- the node of the k-th term of the job j
+abbrev pub node_of : Net → ℕ → ℕ → ℕ
+node_of net j k = length (all_terms (take j net.jobs)) + k
+
 -- the job whose term the node t is
 abbrev pub owner_of : Net → ℕ → ℕ
 owner_of net t = slice_index (owners_from 0 net.jobs) t
