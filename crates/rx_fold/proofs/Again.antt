@@ -1,20 +1,17 @@
 -- What the definitions of the folded net say, and a net that is folded stays.
-use Rattle.std.proofs.Common.{◌≡◌, ℕ, ℤ, zero, suc, ◌+◌, ◌-◌, ◌<◌, ◌≤◌, ◌⊎◌, inl, inr, Bool, true, false, List, [], ◌∷◌, ◌++◌, length, get_or, map, cond, refl, sym, ◌∙◌, ap, subst, arith}
+use Rattle.std.proofs.Common.{◌≡◌, ℕ, zero, suc, ◌+◌, ◌-◌, ◌<◌, ◌≤◌, inl, inr, Bool, true, List, [], ◌∷◌, ◌++◌, length, map, cond, refl, sym, ◌∙◌, ap, subst, arith}
 use Rattle.std.specs.List.{AllByRecursion}
 use Rattle.std.proofs.lemmas.Bool.{cases_lt}
 use Rattle.rx_net.specs.declared.term.Term.{Term}
 use Rattle.rx_net.specs.declared.net.Job.{Job}
-use Rattle.rx_net.specs.declared.net.NetInput.{NetInput}
 use Rattle.rx_net.specs.declared.net.NetOutput.{NetOutput}
 use Rattle.rx_net.specs.declared.net.Net.{Net}
-use Rattle.rx_net.specs.Cells.{input_cells}
 use Rattle.rx_net.specs.Legal.{Legal}
 use Rattle.rx_net.proofs.Each.{all_map}
-use Rattle.rx_fold.specs.Jobs.{moved_term, moved, moved_output, AreEqual, job_at, no_job}
-use Rattle.rx_fold.specs.Folded.{inputs_of, merged, rep, names, names_any, cells_given, is_live, is_kept, numbered, kept_of, anew, folded_jobs, folded}
-use Rattle.rx_fold.specs.Laws.{IsFirst, HasReps, IsClosed, HasLive, IsFolded}
+use Rattle.rx_fold.specs.Jobs.{moved, moved_output, AreEqual, job_at}
+use Rattle.rx_fold.specs.Folded.{inputs_of, merged, rep, cells_given, is_live, is_kept, numbered, kept_of, anew, folded_jobs, folded}
+use Rattle.rx_fold.specs.Laws.{IsFirst, HasReps, HasLive, IsFolded}
 use Rattle.rx_fold.proofs.Equal.{equal_back, moved_agree, moved_id}
-use Rattle.rx_fold.proofs.Stand.{Stands}
 use Rattle.rx_fold.proofs.Numbering.{numbered_first}
 use Rattle.rx_fold.proofs.Facts.{given_within, forward, merged_is, stands_for, rep_in, rep_of, rep_le, rep_equal, by_cell, live_given, live_named, live_least, kept_in, kept_live}
 

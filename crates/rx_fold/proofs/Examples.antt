@@ -1,13 +1,12 @@
 -- Worked nets, computed by the definitions.
-use Rattle.std.proofs.Common.{◌≡◌, ◌*◌, ℕ, ℤ, pos, negsuc, List, [], ◌∷◌, refl}
+use Rattle.std.proofs.Common.{◌≡◌, ℕ, pos, negsuc, List, [], ◌∷◌, refl}
 use Rattle.std.specs.Prelude.{codes, true, false}
-use Rattle.rx_params.specs.declared.kind.Kind.TheVariants.{Int, Bit}
+use Rattle.rx_params.specs.declared.kind.Kind.TheVariants.{Int}
 use Rattle.rx_net.specs.declared.term.Term.{Term}
 use Rattle.rx_net.specs.declared.net.Job.{Job}
 use Rattle.rx_net.specs.declared.net.NetInput.{NetInput}
-use Rattle.rx_net.specs.declared.net.NetOutput.{NetOutput}
 use Rattle.rx_net.specs.declared.net.Net.{Net}
-use Rattle.rx_net.specs.Cells.{input_cells, given, laid, job_value, one_deeper, values_after, depths_after, net_depth, value}
+use Rattle.rx_net.specs.Cells.{input_cells, given, laid, job_value, one_deeper, values_after, depths_after, net_depth}
 use Rattle.rx_net.specs.Tags.{greatest_of}
 use Rattle.rx_net.specs.Numbers.{outs}
 use Rattle.rx_fold.specs.Folded.{rep_among, merged_by, rep, is_needed, is_live, is_kept, numbered, kept_of, anew, folded_jobs, folded}

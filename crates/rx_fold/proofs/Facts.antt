@@ -1,7 +1,7 @@
 -- What stands for what in a legal net, what is live, and what is kept.
-use Rattle.std.proofs.Common.{◌≡◌, ℕ, zero, suc, ◌+◌, ◌-◌, ◌<◌, ◌≤◌, ◌⊎◌, inl, inr, Bool, true, false, List, [], ◌∷◌, ◌++◌, length, get_or, map, refl, sym, ◌∙◌, ap, subst, arith}
-use Rattle.std.specs.Prelude.{◌||◌, ◌&&◌, ◌==◌, nat_lt, nat_le, not, IsTrue}
-use Rattle.std.specs.List.{AllByRecursion, list_any, list_all}
+use Rattle.std.proofs.Common.{◌≡◌, ℕ, ◌+◌, ◌-◌, ◌<◌, ◌≤◌, ◌⊎◌, inl, inr, true, false, List, [], ◌∷◌, ◌++◌, length, map, sym, ◌∙◌, ap, subst, arith}
+use Rattle.std.specs.Prelude.{◌&&◌, ◌==◌, nat_lt, nat_le, not, IsTrue}
+use Rattle.std.specs.List.{AllByRecursion, list_any}
 use Rattle.std.proofs.lemmas.Bool.{cases_lt, and_parts, eqb-true, eq-eqb, lt-ltb, le-ltb}
 use Rattle.std.proofs.lemmas.List.{get_or_default}
 use Rattle.rx_params.specs.Kinds.{greatest, block_count, is_form}
@@ -9,16 +9,16 @@ use Rattle.rx_net.specs.declared.term.Term.{Term}
 use Rattle.rx_net.specs.declared.net.Job.{Job}
 use Rattle.rx_net.specs.declared.net.NetOutput.{NetOutput}
 use Rattle.rx_net.specs.declared.net.Net.{Net}
-use Rattle.rx_net.specs.Cells.{input_cells, cell_count, degree}
+use Rattle.rx_net.specs.Cells.{cell_count, degree}
 use Rattle.rx_net.specs.Legal.{Legal, InTurn, is_output, are_cells, names_output}
 use Rattle.rx_net.proofs.Each.{all_map, all_append}
 use Rattle.rx_net.proofs.Faults.{all_from_test}
 use Rattle.rx_net.proofs.Fits.{nat_lt_yes}
 use Rattle.rx_net.proofs.Evaluates.{job_forward}
 use Rattle.rx_fold.specs.Jobs.{moved_term, moved, AreEqual, job_at, no_job}
-use Rattle.rx_fold.specs.Folded.{inputs_of, merged, merged_by, rep_among, rep, names, names_any, is_needed, cells_given, is_live, is_kept}
+use Rattle.rx_fold.specs.Folded.{inputs_of, merged, rep, names, names_any, cells_given, is_live, is_kept}
 use Rattle.rx_fold.proofs.Stand.{Stands, stands, rep_input, same_rep, merged_at, length-merged}
-use Rattle.rx_fold.proofs.Needs.{or_left, or_right, and_both, or_which, not_both, Forward, forward_from, forward_at, named_by, each_named, each_of, needed_given, needed_named, needed_why, needed_least, NamedLater}
+use Rattle.rx_fold.proofs.Needs.{or_left, or_right, and_both, or_which, not_both, Forward, forward_from, named_by, each_named, each_of, needed_given, needed_named, needed_why, needed_least, NamedLater}
 
 -- ---- lists of cells that are replaced
 

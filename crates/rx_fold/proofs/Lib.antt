@@ -8,3 +8,8 @@ pub mod Transfers
 pub mod Tags
 pub mod Results
 pub mod Again
+mod Firsts
+mod Found
+mod Marks
+mod Made
+mod Lists

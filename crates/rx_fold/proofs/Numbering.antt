@@ -1,8 +1,8 @@
 -- The new numbers of the cells that are kept, and the jobs of those cells.
-use Rattle.std.proofs.Common.{◌≡◌, ℕ, zero, suc, ◌+◌, ◌-◌, ◌<◌, ◌≤◌, ◌⊎◌, inl, inr, Bool, true, false, cond, List, [], ◌∷◌, length, get_or, refl, sym, ◌∙◌, ap, subst, arith}
+use Rattle.std.proofs.Common.{◌≡◌, ℕ, zero, suc, ◌+◌, ◌-◌, ◌<◌, ◌≤◌, inl, inr, Bool, true, false, cond, List, [], ◌∷◌, length, refl, sym, ◌∙◌, ap, subst, arith}
 use Rattle.std.proofs.lemmas.Bool.{cases_lt}
 use Rattle.rx_net.specs.declared.net.Job.{Job}
-use Rattle.rx_fold.specs.Jobs.{job_at, no_job}
+use Rattle.rx_fold.specs.Jobs.{job_at}
 use Rattle.rx_fold.specs.Folded.{numbered, kept_of}
 
 module _ (kept : ℕ → Bool) where

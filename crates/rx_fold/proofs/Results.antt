@@ -1,11 +1,10 @@
 -- The folded net of a legal net: it is legal and folded, has no greater depth, and gives the same.
-use Rattle.std.proofs.Common.{◌≡◌, ℕ, ℤ, zero, suc, ◌+◌, ◌-◌, ◌<◌, ◌≤◌, ◌⊎◌, inl, inr, Bool, true, false, max, List, [], ◌∷◌, ◌++◌, length, get_or, take, drop, map, refl, sym, ◌∙◌, ap, subst, arith, length-append}
+use Rattle.std.proofs.Common.{◌≡◌, ℕ, ℤ, suc, ◌+◌, ◌-◌, ◌<◌, ◌≤◌, ◌⊎◌, inl, inr, Bool, true, List, [], ◌∷◌, ◌++◌, length, get_or, drop, map, refl, sym, ◌∙◌, ap, subst, arith}
 use Rattle.std.specs.Prelude.{◌||◌, ◌&&◌, ◌==◌, nat_lt, nat_le, not, IsTrue}
-use Rattle.std.specs.List.{AllByRecursion, list_any, list_all}
+use Rattle.std.specs.List.{AllByRecursion, list_any}
 use Rattle.std.specs.Str.{bytes_eq}
 use Rattle.std.proofs.lemmas.Bool.{cases_lt, and_parts}
 use Rattle.std.proofs.lemmas.List.{length-map, get_or_default}
-use Rattle.rx_params.specs.declared.kind.Kind.{Kind}
 use Rattle.rx_params.specs.Kinds.{greatest, block_count, is_form}
 use Rattle.rx_net.specs.declared.term.Term.{Term}
 use Rattle.rx_net.specs.declared.net.Job.{Job}
@@ -14,22 +13,21 @@ use Rattle.rx_net.specs.declared.net.NetOutput.{NetOutput}
 use Rattle.rx_net.specs.declared.net.Net.{Net}
 use Rattle.rx_net.specs.Tags.{greatest_of}
 use Rattle.rx_net.specs.Numbers.{number_of, values_of, outs}
-use Rattle.rx_net.specs.Cells.{input_cells, cell_count, given, laid, job_value, one_deeper, values_after, degrees_after, noises_after, depths_after, degree, noise, net_depth, Within, cells_of}
-use Rattle.rx_net.specs.Legal.{InTurn, IsJob, Legal, WithinLimits, is_output, are_cells, names_output}
+use Rattle.rx_net.specs.Cells.{cell_count, given, laid, job_value, one_deeper, values_after, degrees_after, noises_after, depths_after, degree, noise, net_depth, Within, cells_of}
+use Rattle.rx_net.specs.Legal.{InTurn, IsJob, Legal, is_output, are_cells, names_output}
 use Rattle.rx_net.proofs.Bounded.{greatest_at}
-use Rattle.rx_net.proofs.Each.{all_map}
 use Rattle.rx_net.proofs.Evaluates.{job_few}
-use Rattle.rx_net.proofs.Fits.{nat_lt_is, nat_le_is, nat_lt_yes, nat_le_yes}
+use Rattle.rx_net.proofs.Fits.{nat_lt_is}
 use Rattle.rx_net.proofs.Inputs.{length-given}
 use Rattle.rx_net.proofs.Laid.{length-laid, laid_before}
 use Rattle.rx_fold.specs.Jobs.{moved_term, moved, moved_output, AreEqual, job_at, no_job}
 use Rattle.rx_fold.specs.Folded.{inputs_of, merged, rep, names, names_any, cells_given, is_needed, is_live, is_kept, numbered, kept_of, anew, folded_jobs, folded}
 use Rattle.rx_fold.specs.Laws.{IsFolded, ReadsWeights, words_given, Folds}
 use Rattle.rx_fold.proofs.Needs.{and_both, named_by, forward_at}
-use Rattle.rx_fold.proofs.Numbering.{length-kept, numbered_lt, numbered_le, numbered_once, numbered_most}
-use Rattle.rx_fold.proofs.Facts.{all_moved, named_moved, any_moved, any_by, all_mapped, given_within, forward, merged_is, merged_count, merged_forward, rep_le, rep_equal, live_why, live_kept, kept_live, kept_rep, kept_given, kept_named}
+use Rattle.rx_fold.proofs.Numbering.{length-kept, numbered_lt, numbered_once, numbered_most}
+use Rattle.rx_fold.proofs.Facts.{all_moved, named_moved, any_moved, given_within, forward, merged_is, merged_count, merged_forward, rep_le, rep_equal, live_why, live_kept, kept_live, kept_rep, kept_given, kept_named}
 use Rattle.rx_fold.proofs.Transfers.{Reads, Obeys, laid_obeys, Alike, rep_same, Placed, number_inputs, place_of, job_of, kept_below, anew_same, value_reads, depth_reads, words_step, words_reads}
-use Rattle.rx_fold.proofs.Tags.{all_two, turn_from, equal_jobs, degree_anew, noise_anew, anew_below, new_lawful}
+use Rattle.rx_fold.proofs.Tags.{turn_from, equal_jobs, degree_anew, noise_anew, anew_below, new_lawful}
 
 -- ---- what a step lays, in a legal net and in its folded net
 

@@ -1,8 +1,7 @@
 -- The cells that stand for cells.
-use Rattle.std.proofs.Common.{◌≡◌, ℕ, zero, suc, ◌+◌, ◌-◌, ◌<◌, ◌≤◌, ◌⊎◌, inl, inr, Bool, true, false, cond, List, [], ◌∷◌, ◌++◌, length, get_or, take, drop, map, not, refl, sym, ◌∙◌, ap, subst, arith, length-append, length-take-le, drop-cons, eqb}
-use Rattle.std.specs.Prelude.{nat_lt}
+use Rattle.std.proofs.Common.{◌≡◌, ℕ, zero, suc, ◌+◌, ◌-◌, ◌<◌, ◌≤◌, inl, inr, Bool, true, false, cond, List, [], ◌∷◌, ◌++◌, length, get_or, take, drop, not, refl, sym, ◌∙◌, ap, subst, arith, length-take-le, eqb}
 use Rattle.std.specs.List.{AllByRecursion, position_or_len}
-use Rattle.std.proofs.lemmas.Bool.{cases_lt, lt-ltb, le-ltb, eqb-false}
+use Rattle.std.proofs.lemmas.Bool.{cases_lt, lt-ltb, le-ltb}
 use Rattle.std.proofs.lemmas.List.{get_or_append_left, get_or-append_right, append_assoc, append-nil}
 use Rattle.std.proofs.lemmas.List.Sums.{fails_before_first, passes_at_first, position_or_len_is}
 use Rattle.std.proofs.lemmas.List.Folds.{prefix_len-append}
@@ -10,10 +9,10 @@ use Rattle.rx_net.specs.declared.term.Term.{Term}
 use Rattle.rx_net.specs.declared.net.Job.{Job}
 use Rattle.rx_net.specs.Cells.{laid}
 use Rattle.rx_net.proofs.Each.{all_map}
-use Rattle.rx_net.proofs.Laid.{length-laid, get_or_end}
+use Rattle.rx_net.proofs.Laid.{length-laid}
 use Rattle.rx_fold.specs.Jobs.{moved, AreEqual, are_equal, job_at, no_job}
 use Rattle.rx_fold.specs.Folded.{rep_among, merged_by}
-use Rattle.rx_fold.proofs.Equal.{equal_yes, equal_is, equal_self, equal_back, same_tests, moved_agree}
+use Rattle.rx_fold.proofs.Equal.{equal_yes, equal_is, equal_self, same_tests, moved_agree}
 
 -- ---- the first job that passes
 
@@ -140,7 +139,7 @@ stands n m i l =
       itself = rep_job n m d ∙ ap (λ (k : ℕ). n + k) again;
     }
 
-first_pointwise : (p q : Job → Bool) → ((x : Job) → p x ≡ q x) → (m : List Job) → position_or_len p m ≡ position_or_len q m
+pub first_pointwise : (p q : Job → Bool) → ((x : Job) → p x ≡ q x) → (m : List Job) → position_or_len p m ≡ position_or_len q m
 first_pointwise p q h [] = refl
 first_pointwise p q h (x ∷ m) = rw (h x, first_pointwise p q h m) refl
 

@@ -1,5 +1,5 @@
 -- Degrees and noises of a legal net and of its folded net.
-use Rattle.std.proofs.Common.{◌≡◌, ℕ, ℤ, pos, ◌≤ℤ◌, ◌<ℤ◌, zero, suc, ◌+◌, ◌-◌, ◌<◌, ◌≤◌, Bool, true, false, List, [], ◌∷◌, ◌++◌, length, get_or, take, map, refl, sym, ◌∙◌, ap, subst, arith, length-take-le}
+use Rattle.std.proofs.Common.{◌≡◌, ℕ, ℤ, pos, ◌≤ℤ◌, ◌<ℤ◌, suc, ◌+◌, ◌<◌, ◌≤◌, true, List, [], ◌∷◌, ◌++◌, length, get_or, take, refl, sym, ◌∙◌, ap, subst, arith, length-take-le}
 use Rattle.std.specs.List.{AllByRecursion}
 use Rattle.std.proofs.lemmas.List.{get_or_default, append-nil, append_assoc}
 use Rattle.rx_laws.specs.Decode.{plaintexts}
@@ -8,18 +8,16 @@ use Rattle.rx_net.specs.declared.term.Term.{Term}
 use Rattle.rx_net.specs.declared.net.Job.{Job}
 use Rattle.rx_net.specs.declared.net.NetInput.{NetInput}
 use Rattle.rx_net.specs.declared.net.Net.{Net}
-use Rattle.rx_net.specs.Tags.{low_of, high_of, noise_of}
-use Rattle.rx_net.specs.Cells.{input_cells, given, laid, declared_degree, unit_noise, degrees_after, noises_after}
-use Rattle.rx_net.specs.Legal.{InTurn, JobFits, IsJob, Legal, reached}
+use Rattle.rx_net.specs.Cells.{given, declared_degree, unit_noise, degrees_after, noises_after}
+use Rattle.rx_net.specs.Legal.{InTurn, IsJob, Legal, reached}
 use Rattle.rx_net.proofs.Each.{all_map}
 use Rattle.rx_net.proofs.Faults.{turn_at}
 use Rattle.rx_net.proofs.Inputs.{length-given, given_degree, given_noise, job_degree_at, job_noise_at}
-use Rattle.rx_fold.specs.Jobs.{moved_term, moved, AreEqual, job_at, no_job}
+use Rattle.rx_fold.specs.Jobs.{moved, AreEqual, job_at, no_job}
 use Rattle.rx_fold.specs.Folded.{inputs_of, merged, rep, is_kept, numbered, anew, folded_jobs}
-use Rattle.rx_fold.proofs.Stand.{Stands}
 use Rattle.rx_fold.proofs.Numbering.{numbered_lt}
 use Rattle.rx_fold.proofs.Facts.{all_moved, forward, merged_is, rep_in, rep_of, rep_le, rep_equal, by_cell, kept_named, stands_for}
-use Rattle.rx_fold.proofs.Transfers.{Reads, Obeys, reads_same, laid_front, Alike, rep_same, Placed, number_inputs, place_of, job_of, reach, reach_reads, low_same, high_same, noise_same, reached_same}
+use Rattle.rx_fold.proofs.Transfers.{Obeys, reads_same, laid_front, Alike, rep_same, Placed, number_inputs, place_of, job_of, reach, reach_reads, low_same, high_same, noise_same, reached_same}
 
 pub all_two : {P Q R : Term → Type 0} (ts : List Term) → ((t : Term) → P t → Q t → R t) → AllByRecursion P ts → AllByRecursion Q ts → AllByRecursion R ts
 all_two [] f g h = tt

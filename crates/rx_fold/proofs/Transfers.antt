@@ -1,5 +1,5 @@
 -- What is laid job after job, in a net and in its folded net.
-use Rattle.std.proofs.Common.{◌≡◌, ℕ, ℤ, pos, ◌+ℤ◌, ◌*ℤ◌, zero, suc, ◌+◌, ◌-◌, ◌<◌, ◌≤◌, ◌⊎◌, inl, inr, Bool, true, false, List, [], ◌∷◌, ◌++◌, length, get_or, take, drop, map, max, refl, sym, ◌∙◌, ap, subst, arith, length-append, length-take-le}
+use Rattle.std.proofs.Common.{◌≡◌, ℕ, ℤ, pos, ◌+ℤ◌, ◌*ℤ◌, zero, suc, ◌+◌, ◌-◌, ◌<◌, ◌≤◌, inl, inr, true, List, [], ◌∷◌, ◌++◌, length, get_or, take, map, refl, sym, ◌∙◌, ap, subst, arith, length-take-le}
 use Rattle.std.specs.List.{AllByRecursion}
 use Rattle.std.proofs.lemmas.Bool.{cases_lt}
 use Rattle.std.proofs.lemmas.List.{get_or_append_left, get_or-map, length-map}
@@ -7,15 +7,15 @@ use Rattle.rx_net.specs.declared.term.Term.{Term}
 use Rattle.rx_net.specs.declared.net.Job.{Job}
 use Rattle.rx_net.specs.declared.net.Net.{Net}
 use Rattle.rx_net.specs.Tags.{sum_of, value_of, low_of, high_of, noise_of, negative_part, positive_part, greatest_of, greatest_between, natural}
-use Rattle.rx_net.specs.Cells.{laid, job_value, one_deeper, operand_words, input_cells}
+use Rattle.rx_net.specs.Cells.{laid, job_value, one_deeper, operand_words}
 use Rattle.rx_net.specs.Legal.{Legal, reached}
 use Rattle.rx_net.proofs.Each.{all_map}
 use Rattle.rx_net.proofs.Laid.{length-laid}
 use Rattle.rx_fold.specs.Jobs.{moved_term, moved, AreEqual, job_at, no_job}
 use Rattle.rx_fold.specs.Folded.{inputs_of, merged, rep, is_kept, numbered, kept_of, anew, folded_jobs}
-use Rattle.rx_fold.specs.Laws.{SameWeights, ReadsWeights}
+use Rattle.rx_fold.specs.Laws.{ReadsWeights}
 use Rattle.rx_fold.proofs.Equal.{moved_id}
-use Rattle.rx_fold.proofs.Stand.{Stands, laid_cut, get_or_middle}
+use Rattle.rx_fold.proofs.Stand.{laid_cut, get_or_middle}
 use Rattle.rx_fold.proofs.Numbering.{Keeps, keeps_job, keeps_place, numbered_first}
 use Rattle.rx_fold.proofs.Facts.{forward, merged_is, stands_for, rep_in, rep_of, rep_le, kept_in, kept_named}
 

@@ -1,9 +1,8 @@
 -- The folded net: of equal jobs the first stands for all, and a job that no output needs is left out.
-use Rattle.std.specs.Prelude.{◌≡◌, ℕ, zero, suc, ◌+◌, ◌-◌, ◌==◌, nat_lt, Bool, ◌&&◌, ◌||◌, cond, List, [], ◌∷◌, ◌++◌, map, length}
+use Rattle.std.specs.Prelude.{ℕ, zero, suc, ◌+◌, ◌-◌, ◌==◌, nat_lt, Bool, ◌&&◌, ◌||◌, cond, List, [], ◌∷◌, ◌++◌, map}
 use Rattle.std.specs.List.{position_or_len, list_any}
 use Rattle.rx_net.specs.declared.term.Term.{Term}
 use Rattle.rx_net.specs.declared.net.Job.{Job}
-use Rattle.rx_net.specs.declared.net.NetInput.{NetInput}
 use Rattle.rx_net.specs.declared.net.NetOutput.{NetOutput}
 use Rattle.rx_net.specs.declared.net.Net.{Net}
 use Rattle.rx_net.specs.Cells.{input_cells, laid}

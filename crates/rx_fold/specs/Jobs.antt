@@ -1,5 +1,5 @@
 -- Jobs over other cells, and equal jobs.
-use Rattle.std.specs.Prelude.{◌≡◌, ℕ, pos, Bool, ◌==◌, ◌&&◌, List, [], ◌∷◌, map, get_or}
+use Rattle.std.specs.Prelude.{◌≡◌, ℕ, pos, Bool, ◌==◌, ◌&&◌, List, [], map, get_or}
 use Rattle.std.specs.Cmp.Lexicographic.{pointwise}
 use Rattle.std.specs.Ordering.{int_eq}
 use Rattle.std.specs.Str.{bytes_eq}

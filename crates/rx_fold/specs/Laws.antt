@@ -1,5 +1,5 @@
 -- The laws of folded nets.
-use Rattle.std.specs.Prelude.{◌≡◌, ℕ, ℤ, ◌+◌, ◌<◌, ◌≤◌, ◌⊎◌, Bool, IsTrue, List, [], map, length, get_or}
+use Rattle.std.specs.Prelude.{◌≡◌, ℕ, ◌+◌, ◌<◌, ◌≤◌, ◌⊎◌, Bool, IsTrue, List, [], map, length, get_or}
 use Rattle.rx_net.specs.declared.term.Term.{Term}
 use Rattle.rx_net.specs.declared.net.Job.{Job}
 use Rattle.rx_net.specs.declared.net.NetOutput.{NetOutput}

@@ -1,3 +1,4 @@
 pub mod Jobs
 pub mod Folded
 pub mod Laws
+pub mod Passes
