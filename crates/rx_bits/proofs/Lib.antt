@@ -8,3 +8,4 @@ pub mod MovedBlocks
 pub mod WholeShifts
 pub mod TurnedBlocks
 pub mod ToldDigits
+mod Examples

@@ -3,3 +3,4 @@ pub mod BlockJobs
 pub mod Prefixes
 pub mod Trees
 pub mod Summed
+mod Examples

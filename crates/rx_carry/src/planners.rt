@@ -20,7 +20,7 @@ use rx_net::NetPen;
 use std::alloc::AllocError;
 
 /// Appends the blocks of `a + b`, modulo 2 to the power of the bits of so many blocks. The only error is want
-/// of memory, after which the pen's earlier cells are as before.
+/// of memory, after which `out` and the cells that were there are as before.
 pub fn add(pen: &mut NetPen, a: &[u32], b: &[u32], out: &mut Vec<u32>) -> Result<(), AllocError>
     requires some { 1 ≤ length a.now }
     requires same { length b.now ≡ length a.now }
@@ -39,7 +39,7 @@ pub fn add(pen: &mut NetPen, a: &[u32], b: &[u32], out: &mut Vec<u32>) -> Result
 }
 
 /// Appends the blocks of `a - b`, modulo 2 to the power of the bits of so many blocks. The only error is want
-/// of memory, after which the pen's earlier cells are as before.
+/// of memory, after which `out` and the cells that were there are as before.
 pub fn sub(pen: &mut NetPen, a: &[u32], b: &[u32], out: &mut Vec<u32>) -> Result<(), AllocError>
     requires some { 1 ≤ length a.now }
     requires same { length b.now ≡ length a.now }
@@ -59,7 +59,7 @@ pub fn sub(pen: &mut NetPen, a: &[u32], b: &[u32], out: &mut Vec<u32>) -> Result
 }
 
 /// Appends the blocks of `-a`, modulo 2 to the power of the bits of so many blocks. The only error is want of
-/// memory, after which the pen's earlier cells are as before.
+/// memory, after which `out` and the cells that were there are as before.
 pub fn neg(pen: &mut NetPen, a: &[u32], out: &mut Vec<u32>) -> Result<(), AllocError>
     requires some { 1 ≤ length a.now }
     requires blocks { AreBlocks pen.old a.now }
@@ -76,7 +76,7 @@ pub fn neg(pen: &mut NetPen, a: &[u32], out: &mut Vec<u32>) -> Result<(), AllocE
 }
 
 /// Appends a bit, the carry out of `a + b`: 1 where the sum has more bits than so many blocks hold. The only
-/// error is want of memory, after which the pen's earlier cells are as before.
+/// error is want of memory, after which `out` and the cells that were there are as before.
 pub fn carry_out(
     pen: &mut NetPen,
     a: &[u32],
@@ -102,7 +102,7 @@ pub fn carry_out(
 }
 
 /// Appends a bit, the borrow out of `a - b`: 1 where `a` is less than `b`. The only error is want of memory,
-/// after which the pen's earlier cells are as before.
+/// after which `out` and the cells that were there are as before.
 pub fn borrow_out(
     pen: &mut NetPen,
     a: &[u32],

@@ -5,3 +5,4 @@ pub mod Equal
 pub mod Ordered
 pub mod SignedOut
 pub mod Outermost
+mod Examples

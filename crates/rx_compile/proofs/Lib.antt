@@ -21,3 +21,4 @@ mod Arguments
 mod Bitwise
 mod Rules
 mod Others
+mod Examples

@@ -6,3 +6,4 @@ pub mod Stepped
 pub mod Progressed
 pub mod QuotientDigits
 pub mod Whole
+mod Examples

@@ -21,6 +21,7 @@ borrow_at bit width divisor taken = is_less (with_next bit width divisor taken) 
 abbrev pub taken_in : ℕ → ℕ → ℕ → ℕ
 taken_in bits rest bit = (2 * rest + bit) % 2 ^ bits
 
--- the number where the divisor is greater, else what is left after the divisor is taken off
+-- the number where the divisor is greater, else the number less the divisor, modulo 2 ^ bits: it is told with
+-- 2 ^ bits more
 abbrev pub reduced : ℕ → ℕ → ℕ → ℕ
 reduced bits divisor number = chosen (is_less number divisor) number (number + 2 ^ bits - divisor % 2 ^ bits)

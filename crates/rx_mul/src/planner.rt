@@ -19,7 +19,7 @@ use rx_plan::{carry_table, digit_table, nought};
 use std::alloc::AllocError;
 
 /// Appends the blocks of `a · b`, modulo 2 to the power of the bits of so many blocks. The only error is want
-/// of memory, after which the pen's earlier cells are as before.
+/// of memory, after which `out` and the cells that were there are as before.
 pub fn mul(pen: &mut NetPen, a: &[u32], b: &[u32], out: &mut Vec<u32>) -> Result<(), AllocError>
     requires some { 1 ≤ length a.now }
     requires same { length b.now ≡ length a.now }

@@ -10,3 +10,4 @@ pub mod PerBlock
 pub mod RowLaws
 pub mod RowCells
 pub mod Held
+mod Examples

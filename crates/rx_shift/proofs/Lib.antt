@@ -6,3 +6,4 @@ pub mod Orders
 pub mod Sources
 pub mod Staging
 pub mod Whole
+mod Examples

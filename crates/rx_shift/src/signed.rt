@@ -21,9 +21,9 @@ use rx_plan::{against, table_of, unit_of};
 use std::alloc::{AllocError, Global};
 
 /// Appends the signed number `a` divided by 2 to the power of `amount`, rounded down: copies of the sign
-/// bit come in, also where the amount is the width or more. The amount has no sign. Two jobs for each
-/// block and two levels more than `shrv`. The only error is want of memory, after which `out` is as
-/// before.
+/// bit come in, also where the amount is the width or more. The amount has no sign. Over `shrv` it has
+/// two jobs for each block and one more at most, and two levels. The only error is want of memory, after
+/// which `out` is as before.
 pub fn sarv(
     pen: &mut NetPen,
     a: &[u32],

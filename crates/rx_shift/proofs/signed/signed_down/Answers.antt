@@ -1,6 +1,7 @@
 use Rattle.std.proofs.Common.{◌≡◌, ◌^◌, ◌-◌, ◌*◌, ◌/◌, ℕ, List, length, get_or, sym, ◌∙◌, ap, arith, subst}
 use Rattle.std.proofs.lemmas.Result.{IfOk-weaker}
 use Rattle.rx_net.specs.Cells.{value}
+use Rattle.rx_net.proofs.Grows.{extends_onward}
 use Rattle.rx_plan.specs.Values.{number_held, cell_value}
 use Rattle.rx_plan.specs.Planned.{Each, EachOf, Planned}
 use Rattle.rx_plan.specs.Results.{GivesNumber}
@@ -32,3 +33,6 @@ returns-clause-planned c =
     c.in_ok-first.ensures.planned g0
     (subst (λ (ds : List ℕ). Planned two new cells.items (λ _. 2 ^ two.space - 1) (length ds) (length ds) 1 (λ P. P top × Each ds P) (λ xs i. turned_under two.space (value two xs top) (cell_value two ds xs i))) c.deref-2.ensures.value q))
     c.turned-2.ensures.planned
+
+pub returns-clause-kept : goal.returns-clause-kept
+returns-clause-kept c = extends_onward _ _ _ (extends_onward _ _ _ c.turned.ensures.kept c.shrv.ensures.kept) c.turned-2.ensures.kept

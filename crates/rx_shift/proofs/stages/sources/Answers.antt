@@ -1,5 +1,6 @@
 use Rattle.std.proofs.Common.{◌≡◌, ℕ, List, ◌<◌, ◌≤◌, ◌+◌, ◌-◌, ◌*◌, ◌/◌, ◌%◌, ◌^◌, ◌++◌, length, sym, ◌∙◌, ap, arith, subst}
 use Rattle.std.proofs.lemmas.Nat.{pow_pos, mod_below, div-add-mod'}
+use Rattle.rx_net.proofs.Grows.{extends_onward}
 use Rattle.rx_plan.specs.Tables.{HasEntries}
 use Rattle.rx_plan.specs.Planned.{Each, Lays}
 use Rattle.rx_plan.proofs.PerBlock.{table_here}
@@ -102,3 +103,12 @@ returns-clause-sums c =
     rw e (sources_sum p c.product_row.new.pen c.product_row-2.new.pen c.product_row-3.new.pen r1 r2 r3 d c.args.bit a c.deref.result.now c.deref-2.result.now c.deref-4.result.now steps r beyond c.args.distance
     two c.space-space.ensures.bounded c.requires.bit c.requires.blocks (omega arith) (omega arith) c.beyond_of-beyond.ensures hk hn hf
     c.in_ok-rows.ensures.planned c.in_ok-near_row.ensures.planned c.in_ok-far_row.ensures.planned)
+
+pub returns-in_err-far_row-clause-kept : goal.returns-in_err-far_row-clause-kept
+returns-in_err-far_row-clause-kept c = extends_onward _ _ _ (extends_onward _ _ _ c.product_row.ensures.kept c.product_row-2.ensures.kept) c.product_row-3.ensures.kept
+
+pub returns-in_err-extend_from_slice-2-clause-kept : goal.returns-in_err-extend_from_slice-2-clause-kept
+returns-in_err-extend_from_slice-2-clause-kept c = extends_onward _ _ _ (extends_onward _ _ _ c.product_row.ensures.kept c.product_row-2.ensures.kept) c.product_row-3.ensures.kept
+
+pub returns-clause-kept : goal.returns-clause-kept
+returns-clause-kept c = extends_onward _ _ _ (extends_onward _ _ _ c.product_row.ensures.kept c.product_row-2.ensures.kept) c.product_row-3.ensures.kept
