@@ -1,5 +1,5 @@
 -- The laws in words of single views: what the totals say.
-use Rattle.std.proofs.Common.{◌≡◌, ◌≢◌, ℕ, zero, suc, ◌<◌, ◌≤◌, ◌⊎◌, inl, inr, Bool, cond, eqb, ne_eqb, List, [], ◌∷◌, length, get_or, refl, ap, ◌∙◌, subst, arith}
+use Rattle.std.proofs.Common.{◌≡◌, ◌≢◌, ℕ, zero, suc, ◌<◌, ◌≤◌, ◌⊎◌, inl, inr, Bool, cond, eqb, ne_eqb, List, [], ◌∷◌, length, get_or, refl, ap, ◌∙◌, subst, arith, eq-eqb}
 use Rattle.std.specs.Prelude.{Option, Some, None, Contains}
 use mathlib.Core.Logic.{dite}
 use mathlib.Core.Option.{some}
@@ -9,7 +9,7 @@ use Rattle.rx_board.specs.declared.view.Held.{Held}
 use Rattle.rx_board.specs.declared.view.Plan.{Plan}
 use Rattle.rx_board.specs.declared.view.View.{View}
 use Rattle.rx_board.specs.Meaning.{LawsMean}
-use Rattle.rx_board.specs.Rule.{one_if, times, holding, holds_job, credits, passed, job_count, HeldOk, Laws}
+use Rattle.rx_board.specs.Rule.{one_if, total, times, holding, holds_job, credits, uses_in, passed, job_count, HeldOk, Laws}
 use Rattle.rx_board.proofs.Totals.{one, no, total_at, total_two, total_some, credits_own, sole_credits}
 use Rattle.rx_board.proofs.Keeps.{passed_part}
 
@@ -89,6 +89,7 @@ all_meant p st wd ct views l = let job : (i : ℕ) (v : View) (j : ℕ) → get_
       ran_alone = λ i k v w j a b h g. run_by_one p st wd ct views l j (job i v j a h) i k v w a b h g;
       present_ran = λ j b t. present_was_run p st wd ct views l j b t;
       credited = λ j b k m. node_credited p st wd ct views l j b k m;
+      present_credited = λ j b e. ap (λ (x : Bool). cond x (length (uses_in p j)) (total (λ v. credits j v.held) views)) (eq-eqb (st j) 2 e);
       passed_credited = λ j b k i v q e a h m. passed_node p st wd ct views l j b k i v q e a h m;
       counts = l.counts;
       ready = λ i v j a h. ((l.each i v a).ready j h).1;

@@ -41,16 +41,16 @@ count_at_place v p j is P h p' j' is' e =
     let job : j ≡ j' = dite (ℕ_discrete j j') (λ q. q) (λ ne. absurd (apart (p.width + 2) j j' 1 1 (omega arith) (omega arith) ne e')) in
     subst (λ (u : Plan × ℕ). P u.0 u.1) (λ i. (same i, job i)) h
 
-read_at : (v : View) (p : Plan) (j q : ℕ) → v.plan ≡ Some p → (r : ℕ) → (r ≡ get_or (cell p j) q 0) × (length (cell p j) ≡ p.width) → q < p.width → (p' : Plan) (j' q' : ℕ) → v.plan ≡ Some p' → q' < p'.width
-    → word_place p.width j q ≡ word_place p'.width j' q' → (r ≡ get_or (cell p' j') q' 0) × (length (cell p' j') ≡ p'.width)
-read_at v p j q is r h l p' j' q' is' l' e =
+word_at_place : (v : View) (p : Plan) (j q : ℕ) → v.plan ≡ Some p → (P : Plan → ℕ → ℕ → Type 0) → P p j q → q < p.width → (p' : Plan) (j' q' : ℕ) → v.plan ≡ Some p' → q' < p'.width
+    → word_place p.width j q ≡ word_place p'.width j' q' → P p' j' q'
+word_at_place v p j q is P h l p' j' q' is' l' e =
     let same : p' ≡ p = let a : Some p' ≡ Some p = sym is' ∙ is in cc in
     let n : ℕ = p.width + 2 in
     let l2 : q' < p.width = subst (λ (u : Plan). q' < u.width) same l' in
     let e' : word_place p.width j q ≡ word_place p.width j' q' = e ∙ ap (λ (u : Plan). word_place u.width j' q') same in
     let job : j ≡ j' = dite (ℕ_discrete j j') (λ z. z) (λ ne. absurd (apart n j j' (2 + q) (2 + q') (omega arith) (omega arith) ne e')) in
     let place : q ≡ q' = (let x : ℕ = j * n in let e2 : 1 + (x + (2 + q)) ≡ 1 + (x + (2 + q')) = e' ∙ ap (λ (u : ℕ). word_place p.width u q') (sym job) in omega arith) in
-    subst (λ (u : Plan × ℕ × ℕ). (r ≡ get_or (cell u.0 u.1) u.2 0) × (length (cell u.0 u.1) ≡ u.0.width)) (λ i. (sym same i, job i, place i)) h
+    subst (λ (u : Plan × ℕ × ℕ). P u.0 u.1 u.2) (λ i. (sym same i, job i, place i)) h
 
 module _ (p : Plan) where
   -- what a seat knows after it has found j in its state
@@ -119,7 +119,8 @@ module _ (p : Plan) where
         keeps,
         tt,
         unmoved s r (word_place p.width j q) id v v me.1 at kn refl refl,
-        (refl, λ p' j' q' is' has' l' e. read_at v p j q is (word_in p.width s.words j q) (full.1 q l, full.0) l p' j' q' is' l' e),
+        λ p' j' q' is' b' l' e. word_at_place v p j q is (λ u i k. (me ≡ me) × MayRead u v i × (word_in p.width s.words j q ≡ get_or (cell u i) k 0) × (length (cell u i) ≡ u.width))
+            (refl, may, full.1 q l, full.0) l p' j' q' is' l' e,
       )
 
   -- a step that writes a word of the job k, which is free or taken by the own view

@@ -39,6 +39,8 @@ module _ (p : Plan) (st : ℕ → ℕ) (wd : ℕ → ℕ → ℕ) (ct : ℕ → 
     -- use k of the cell of j is credited only where j is present, or where a view holds j with all words and has passed the use
     pub credited : (j : ℕ) → j < job_count p → (k : ℕ) → k < passed p st views j →
         (st j ≡ 2) ⊎ ((i : ℕ) × (v : View) × (e : ℕ) × At i v × (v.held ≡ Some (holding j p.width e)) × (k < e))
+    -- each use of a present job is credited
+    pub present_credited : (j : ℕ) → j < job_count p → st j ≡ 2 → passed p st views j ≡ length (uses_in p j)
     -- each use that such a view has passed is credited
     pub passed_credited : (j : ℕ) → j < job_count p → (k i : ℕ) (v : View) (q e : ℕ) → At i v → v.held ≡ Some (holding j q e) →
         k < e → k < passed p st views j

@@ -57,9 +57,9 @@ counted_load st m r m' = (p : Plan) (j : ℕ) → m.0.plan ≡ Some p → j < jo
 
 -- load word
 abbrev pub read_word : Change (Unit {0}) → Stand → ℕ → Stand → Type 0
-read_word st m r m' = (m' ≡ m)
-    × ((p : Plan) (j q : ℕ) → m.0.plan ≡ Some p → MayRead p m.0 j → q < p.width → st.word ≡ word_place p.width j q
-    → (r ≡ slice_index (cell p j) q) × (length (cell p j) ≡ p.width))
+read_word st m r m' = (p : Plan) (j q : ℕ) → m.0.plan ≡ Some p → j < job_count p → q < p.width
+    → st.word ≡ word_place p.width j q
+    → (m' ≡ m) × MayRead p m.0 j × (r ≡ slice_index (cell p j) q) × (length (cell p j) ≡ p.width)
 
 -- claim
 abbrev pub claimed : Change (Unit {0}) → Stand → ℕ → Stand → Type 0

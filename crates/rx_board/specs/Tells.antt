@@ -66,7 +66,7 @@ abbrev pub Told : Plan → View → View → Step → Type 0
 Told p v w (Ran j) =
     (j < job_count p) × (w.ran ≡ v.ran ++ j ∷ []) × (Contains v.ran j → ⊥) × Contains w.known j × Contains w.ready j
 Told p v w (NotReady j) =
-    (w.ran ≡ v.ran) × MetSince v w j 1 × ((k : ℕ) → k < job_count p → Contains w.known k ⊎ IsBlocked p v w k)
+    (j < job_count p) × (w.ran ≡ v.ran) × MetSince v w j 1 × ((k : ℕ) → k < job_count p → Contains w.known k ⊎ IsBlocked p v w k)
     × ((k : ℕ) × (k < job_count p) × (Contains w.known k → ⊥))
 Told p v w (Refused j) =
     (j < job_count p) × (w.ran ≡ v.ran) × EndsWith v w j 0 × (Contains w.known j → ⊥) × Contains w.ready j
@@ -87,7 +87,7 @@ Seen p v w n = (k : ℕ) → k < n → Contains w.known k ⊎ IsBlocked p v w k
 abbrev pub Sought : Plan → View → View → Seek → Type 0
 Sought p v w (Won j) =
     (j < job_count p) × (w.held ≡ Some (holding j 0 0)) × Contains w.ready j × (Contains v.ran j → ⊥) × EndsWith v w j 0 × (Contains w.known j → ⊥)
-Sought p v w (Lost j) = (w.held ≡ None) × MetSince v w j 1 × Seen p v w (job_count p)
+Sought p v w (Lost j) = (j < job_count p) × (w.held ≡ None) × MetSince v w j 1 × Seen p v w (job_count p)
 Sought p v w AllPresent = (w.held ≡ None) × ((k : ℕ) → k < job_count p → Contains w.known k)
 
 -- the first job found taken

@@ -24,5 +24,5 @@ pub returns-after-all_present-clause-told : goal.returns-after-all_present-claus
 returns-after-all_present-clause-told g c = elim c.if-all_present.branch [
   | then-all_present w ↦ subst (Told c.args.self.now.plan c.args.seat.now.me.0 c.all_present.new.seat.me.0) (sym w.result-is) (c.all_present.ensures.grows.ran ∙ c.search.ensures.grows.ran, c.all_present.ensures.all (search rules))
   | else-all_present w ↦ subst (Told c.args.self.now.plan c.args.seat.now.me.0 c.all_present.new.seat.me.0) (sym w.result-is)
-      (lost_told c.args.self.now.plan c.args.seat.now.me.0 c.search.new.seat.me.0 c.all_present.new.seat.me.0 c.in-Lost.job c.search.ensures.grows c.in-Lost.ensures.sought.1 c.in-Lost.ensures.sought.2 c.all_present.ensures.grows (c.all_present.ensures.one (search rules)))
+      (lost_told c.args.self.now.plan c.args.seat.now.me.0 c.search.new.seat.me.0 c.all_present.new.seat.me.0 c.in-Lost.job c.in-Lost.ensures.sought.0 c.search.ensures.grows c.in-Lost.ensures.sought.2 c.in-Lost.ensures.sought.3 c.all_present.ensures.grows (c.all_present.ensures.one (search rules)))
 ]
