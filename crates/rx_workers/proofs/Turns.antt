@@ -1,15 +1,17 @@
 -- What one step of a worker changes.
-use Rattle.std.proofs.Common.{◌≡◌, ◌≢◌, ℕ, zero, suc, ◌+◌, ◌<◌, ◌≤◌, inl, inr, ⊎_elim, List, [], ◌∷◌, ◌++◌, length, get_or, eqb, ◌==◌, refl, ap, ◌∙◌, subst, arith, append_assoc}
+use Rattle.std.proofs.Common.{◌≡◌, ◌≢◌, ℕ, zero, suc, ◌+◌, ◌<◌, ◌≤◌, inl, inr, ⊎_elim, List, [], ◌∷◌, ◌++◌, length, get_or, eqb, ◌==◌, refl, ap, ◌∙◌, sym, subst, arith, append_assoc}
 use Rattle.std.specs.Prelude.{Contains}
+use Rattle.std.proofs.lemmas.List.Elements.{Contains-append_left, Contains-append_right}
 use mathlib.Core.Logic.{dite}
 use native.Mathlib.Decide.{ℕ_discrete}
 use Rattle.rx_board.specs.declared.view.Found.{Found}
 use Rattle.rx_board.specs.declared.view.View.{View}
 use Rattle.rx_board.specs.Rule.{one_if, times}
+use Rattle.rx_board.specs.Steps.{both_of}
 use Rattle.rx_board.specs.Tells.{Keeps, MetSince}
 use Rattle.rx_board.proofs.Totals.{total_append, one, no}
 use Rattle.rx_board.specs.Rule.{BoardValue}
-use Rattle.rx_workers.specs.Crew.{taken_in, HasDrained}
+use Rattle.rx_workers.specs.Crew.{taken_in, HasDrained, KnowsAll}
 
 -- how many of the first n jobs are not in the list
 abbrev pub missing : ℕ → List ℕ → ℕ
@@ -67,3 +69,43 @@ pub drained_later : (b : BoardValue) (v w : View) → HasDrained b v → ((j : �
 drained_later b v w h known met = record {
   either = ⊎_elim (λ all. inl (λ k l. known k (all k l))) (λ often. let e = ap taken_in met in inr (omega arith)) h.either;
 }
+
+pub knows_itself : (v : View) → KnowsAll v v
+knows_itself v = record { known = λ j h. h; ready = λ j h. h; ran = λ j h. h }
+
+pub knows_on : (u v w : View) → KnowsAll u v → KnowsAll v w → KnowsAll u w
+knows_on u v w a b = record {
+  known = λ j h. b.known j (a.known j h);
+  ready = λ j h. b.ready j (a.ready j h);
+  ran = λ j h. b.ran j (a.ran j h);
+}
+
+-- a step keeps what is known, and runs a job more or none
+pub knows_more : (v w : View) (more : List ℕ) → Keeps v w → w.ran ≡ v.ran ++ more → KnowsAll v w
+knows_more v w more k e = record {
+  known = k.known;
+  ready = k.ready;
+  ran = λ j h. subst (λ (xs : List ℕ). Contains xs j) (sym e) (Contains-append_left v.ran more j h);
+}
+
+pub knows_same : (v w : View) → Keeps v w → w.ran ≡ v.ran → KnowsAll v w
+knows_same v w k e = record {
+  known = k.known;
+  ready = k.ready;
+  ran = λ j h. subst (λ (xs : List ℕ). Contains xs j) (sym e) h;
+}
+
+-- a seat to which another was joined knows what it knew, and what the other knew
+pub knows_own : (v w x : View) → x ≡ both_of v w → KnowsAll v x
+knows_own v w x e = subst (KnowsAll v) (sym e) (record {
+  known = λ j h. Contains-append_left v.known w.known j h;
+  ready = λ j h. Contains-append_left v.ready w.ready j h;
+  ran = λ j h. Contains-append_left v.ran w.ran j h;
+})
+
+pub knows_other : (v w x : View) → x ≡ both_of v w → KnowsAll w x
+knows_other v w x e = subst (KnowsAll w) (sym e) (record {
+  known = λ j h. Contains-append_right v.known w.known j h;
+  ready = λ j h. Contains-append_right v.ready w.ready j h;
+  ran = λ j h. Contains-append_right v.ran w.ran j h;
+})

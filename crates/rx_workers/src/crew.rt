@@ -1,8 +1,8 @@
 //! The workers of a board, made before it is shared and joined after.
-ghost use Rattle.std.specs.Prelude.{◌≡◌, ℕ, All, Contains, IfOk, length, ◌<◌};
+ghost use Rattle.std.specs.Prelude.{◌≡◌, ◌<◌, ◌∷◌, All, IfOk, length, reverse};
 ghost use Rattle.rx_board.specs.Seats.{IsOf};
 ghost use Rattle.rx_workers.specs.declared.worker.Worker.{Worker};
-ghost use Rattle.rx_workers.specs.Crew.{IsFit, Suits, HasDrained};
+ghost use Rattle.rx_workers.specs.Crew.{IsFit, Suits, HasDrained, HasJoined, KnowsAll, kernels_of};
 
 use crate::draining::drain_all;
 use crate::worker::{SureKernel, Worker};
@@ -11,8 +11,8 @@ use rx_net::Net;
 use std::alloc::{AllocError, Global};
 use std::thread::Threads;
 
-/// A worker for each kernel. The last has the first kernel and this seat, and each other one a seat that is split off it.
-/// The error is want of memory.
+/// A worker for each kernel, from the last kernel to the first. The worker of the first has this seat, and each other one
+/// a seat that is split off it. The error is want of memory.
 pub fn start<K: Kernel + Drop>(
     alloc: Global,
     board: &Board<'_, K>,
@@ -26,6 +26,7 @@ pub fn start<K: Kernel + Drop>(
     requires others { All (Suits K.basis K.width K.space K.told board.now) others.items }
     ensures fit { IfOk result (λ v. All (IsFit K.basis K.width K.space K.told board.now) v.items) }
     ensures some { IfOk result (λ v. 0 < length v.items) }
+    ensures kernels { IfOk result (λ v. kernels_of v.items ≡ reverse (first ∷ others.items)) }
 {
     let words = first.words();
     let mut workers = Vec::with_capacity(alloc, others.len())?;
@@ -53,6 +54,7 @@ pub fn work<R: Threads + Sync, K: SureKernel + Send + Drop>(
     requires fit { All (IsFit K.basis K.width K.space K.told board.now) workers.items }
     ensures seat { IsOf board.now result }
     ensures drained { HasDrained board.now result.view }
+    ensures joined { HasJoined workers.items result.view }
 {
     drain_all(rt, board, workers.as_mut_slice());
     let Some(last) = workers.pop() else {
@@ -72,7 +74,8 @@ fn join_all<K: Kernel + Drop>(board: &Board<'_, K>, seat: &mut Seat, mut workers
     requires seat { IsOf board.now seat.old }
     requires fit { All (IsFit K.basis K.width K.space K.told board.now) workers.items }
     ensures seat { IsOf board.now seat.new }
-    ensures known { (j : ℕ) → Contains seat.old.view.known j → Contains seat.new.view.known j }
+    ensures knows { KnowsAll seat.old.view seat.new.view }
+    ensures joined { HasJoined workers.items seat.new.view }
     ensures met { seat.new.view.met ≡ seat.old.view.met }
 {
     while let Some(worker) = workers.pop() {

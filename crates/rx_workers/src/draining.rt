@@ -2,7 +2,7 @@
 ghost use Rattle.std.specs.Prelude.{ℕ, ◌<◌, slice_index_or, All, length};
 ghost use Rattle.rx_board.specs.Tells.{Keeps};
 ghost use Rattle.rx_workers.specs.declared.worker.Worker.{Worker};
-ghost use Rattle.rx_workers.specs.Crew.{IsFit, HasDrained};
+ghost use Rattle.rx_workers.specs.Crew.{IsFit, HasDrained, KnowsAll};
 
 use crate::worker::{SureKernel, Worker};
 use rx_board::{Board, Step};
@@ -28,6 +28,7 @@ fn drain<K: SureKernel>(board: &Board<'_, K>, worker: &mut Worker<K>)
     requires { IsFit K.basis K.width K.space K.told board.now worker.old }
     ensures fit { IsFit K.basis K.width K.space K.told board.now worker.new }
     ensures keeps { Keeps worker.old.seat.view worker.new.seat.view }
+    ensures knows { KnowsAll worker.old.seat.view worker.new.seat.view }
     ensures drained { HasDrained board.now worker.new.seat.view }
 {
     let mut refusals = 0;
@@ -54,6 +55,8 @@ pub(crate) fn drain_all<R: Threads + Sync, K: SureKernel + Send>(
     requires some { 0 < length workers.old }
     requires fit { All (IsFit K.basis K.width K.space K.told board.now) workers.old }
     ensures fit { All (IsFit K.basis K.width K.space K.told board.now) workers.new }
+    ensures knows { (i : ℕ) (d : Worker K) → i < length workers.new
+        → KnowsAll (slice_index_or workers.old i d).seat.view (slice_index_or workers.new i d).seat.view }
     ensures drained { (i : ℕ) (d : Worker K) → i < length workers.new
         → HasDrained board.now (slice_index_or workers.new i d).seat.view }
 {
@@ -61,7 +64,8 @@ pub(crate) fn drain_all<R: Threads + Sync, K: SureKernel + Send>(
     let work = |_: usize, worker: &mut Worker<K>|
         requires { IsFit K.basis K.width K.space K.told board.now worker.old }
         ensures { IsFit K.basis K.width K.space K.told board.entry.now worker.new
-            × HasDrained board.entry.now worker.new.seat.view }
+            × HasDrained board.entry.now worker.new.seat.view
+            × KnowsAll worker.old.seat.view worker.new.seat.view }
     { drain(board, worker) };
     thread::for_each_mut(rt, workers, count, &work);
 }

@@ -1,10 +1,12 @@
 use Rattle.std.proofs.Common.{◌≡◌, ◌∙◌, ◌<◌, ◌-◌, length, vec_len, get_or, ◌∷◌, ◌++◌, [], rules, arith, sym, subst}
-use Rattle.std.specs.Prelude.{All, Some}
+use Rattle.std.specs.Prelude.{All, List, Some, reverse}
+use Rattle.std.proofs.lemmas.List.{nil_from_length}
 use Rattle.std.proofs.lemmas.List.Elements.{All-push}
 use Rattle.std.proofs.lemmas.Grind.{common_steps}
 use Rattle.rx_board.specs.Seats.{IsOf}
 use Rattle.rx_workers.specs.declared.worker.Worker.{Worker}
-use Rattle.rx_workers.specs.Crew.{IsFit, Suits}
+use Rattle.rx_workers.specs.Crew.{IsFit, Suits, kernels_of}
+use Rattle.rx_workers.proofs.Joins.{kernels_more, kernels_all}
 use Rattle.rx_workers.proofs.crew.start.Goals as goal
 
 pub loop-kernel-preserved : goal.loop-kernel-preserved
@@ -25,6 +27,11 @@ loop-kernel-preserved g c = let inv = c.loop-kernel.invariant in record {
       let items : c.push.new.self.items ≡ c.loop-kernel.workers.items ++ x ∷ [] = c.in_ok-push.ensures.items in
       subst (All P) (sym items) (All-push P c.loop-kernel.workers.items x inv.fit (record { seat = c.split-seat.ensures.made.0; desk = desk; kernel = kernel }));
   others = grind (arith, common_steps);
+  kernels =
+      let x : Worker g.row.K.Denot = record { seat = c.split-seat.result; desk = c.in_ok-desk.desk; kernel = c.in-Some.kernel } in
+      subst (λ (ws : List (Worker g.row.K.Denot)). kernels_of ws ++ reverse c.pop.new.self.items ≡ reverse c.args.others.items)
+      (sym c.in_ok-push.ensures.items)
+      (kernels_more c.loop-kernel.workers.items x c.loop-kernel.others.items c.pop.new.self.items (reverse c.args.others.items) c.in-Some.ensures.items inv.kernels);
 }
 
 pub returns-clause-fit : goal.returns-clause-fit
@@ -34,3 +41,11 @@ returns-clause-fit g c =
     let items : c.push-2.new.self.items ≡ c.loop-kernel.workers.items ++ x ∷ [] = c.in_ok-push-2.ensures.items in
     subst (All P) (sym items) (All-push P c.loop-kernel.workers.items x c.loop-kernel.invariant.fit
     (record { seat = c.loop-kernel.invariant.seat; desk = c.in_ok-desk-2.ensures ∙ (c.words-words.ensures ∙ c.requires.first.width_is); kernel = c.requires.first }))
+
+pub returns-clause-kernels : goal.returns-clause-kernels
+returns-clause-kernels g c =
+    let x : Worker g.row.K.Denot = record { seat = c.loop-kernel.seat; desk = c.in_ok-desk-2.desk; kernel = c.args.first } in
+    let none : length c.loop-kernel.others.items ≡ 0 = grind (arith, common_steps) in
+    subst (λ (ws : List (Worker g.row.K.Denot)). kernels_of ws ≡ reverse (c.args.first ∷ c.args.others.items)) (sym c.in_ok-push-2.ensures.items)
+    (kernels_all c.loop-kernel.workers.items x c.loop-kernel.others.items c.args.others.items (nil_from_length c.loop-kernel.others.items none)
+    c.loop-kernel.invariant.kernels)

@@ -1,6 +1,6 @@
 use Rattle.std.proofs.Common.{◌≡◌, [], ◌∷◌, ◌++◌, ap, ◌∙◌, arith}
 use Rattle.rx_board.specs.Rule.{job_count}
-use Rattle.rx_workers.proofs.Turns.{missing, keeps_on, taken_more, taken_keeps, missing_less}
+use Rattle.rx_workers.proofs.Turns.{missing, keeps_on, taken_more, taken_keeps, missing_less, knows_on, knows_more, knows_same}
 use Rattle.rx_workers.proofs.draining.drain.Goals as goal
 
 pub loop-refusals-smaller-in-Ran : goal.loop-refusals-smaller-in-Ran
@@ -21,11 +21,12 @@ loop-refusals-preserved-in-Ran g c = let inv = c.loop-refusals.invariant in let 
     };
   };
   keeps = keeps_on _ _ _ inv.keeps c.step.ensures.keeps;
+  knows = knows_on _ _ _ inv.knows (knows_more _ _ _ c.step.ensures.keeps c.in-Ran.ensures.told.1);
   enough = let e = inv.enough in omega arith;
 }
 
 pub loop-refusals-preserved : goal.loop-refusals-preserved
-loop-refusals-preserved g c = let inv = c.loop-refusals.invariant in let t = c.in-NotReady.ensures.told in let k = taken_more _ _ _ t.1 in record {
+loop-refusals-preserved g c = let inv = c.loop-refusals.invariant in let t = c.in-NotReady.ensures.told in let k = taken_more _ _ _ t.2 in record {
   fit = record {
     seat = c.step.ensures.seat.0;
     desk = c.step.ensures.desk ∙ inv.fit.desk;
@@ -37,5 +38,9 @@ loop-refusals-preserved g c = let inv = c.loop-refusals.invariant in let t = c.i
     };
   };
   keeps = keeps_on _ _ _ inv.keeps c.step.ensures.keeps;
+  knows = knows_on _ _ _ inv.knows (knows_same _ _ c.step.ensures.keeps t.1);
   enough = let e = inv.enough in omega arith;
 }
+
+pub returns-in-Done-clause-knows : goal.returns-in-Done-clause-knows
+returns-in-Done-clause-knows g c = knows_on _ _ _ c.loop-refusals.invariant.knows (knows_same _ _ c.step.ensures.keeps c.in-Done.ensures.told.0)

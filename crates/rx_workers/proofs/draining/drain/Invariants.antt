@@ -1,7 +1,7 @@
 use Rattle.std.proofs.Common.{◌-◌, ◌≤◌, ◌+◌}
 use Rattle.rx_board.specs.Rule.{job_count}
 use Rattle.rx_board.specs.Tells.{Keeps}
-use Rattle.rx_workers.specs.Crew.{IsFit, taken_in}
+use Rattle.rx_workers.specs.Crew.{IsFit, KnowsAll, taken_in}
 use Rattle.rx_workers.proofs.Turns.{missing}
 use Rattle.rx_workers.proofs.draining.drain.Given as goal
 
@@ -9,6 +9,7 @@ abbrev pub invariant-loop-refusals : goal.invariant-loop-refusals
 invariant-loop-refusals g l = record {
   fit : IsFit g.K.Kernel.basis g.K.Kernel.width g.K.Kernel.space g.K.Kernel.told l.board l.worker;
   keeps : Keeps l.initial.worker.seat.view l.worker.seat.view;
+  knows : KnowsAll l.initial.worker.seat.view l.worker.seat.view;
   enough : l.refusals ≤ taken_in l.worker.seat.view.met;
 }
 
