@@ -6,4 +6,6 @@ pub mod SeededServers
 pub mod BodiesFiles
 pub mod SeededCiphers
 pub mod EitherVersion
+pub mod RowParts
+pub mod FreshBodies
 mod Examples

@@ -1,7 +1,14 @@
 -- Mask seeds, and masks that a seed does not draw.
 use Rattle.std.specs.Prelude.{ℕ, ◌+◌, ◌==◌, ◌≡◌, ◌<◌, ◌^◌, List, [], ◌∷◌, length, EachIndex, slice_index, if◌then◌else◌, Option, Some, None, Result, Ok, Err}
+use Rattle.rx_torus.specs.Streams.{Draws, stream_of}
+use Rattle.rx_torus.specs.Kinds.{stream_number}
+use Rattle.rx_torus.specs.declared.kind.StreamKind.{StreamKind}
 use Rattle.rx_seeded.specs.declared.fault.SeedFault.{SeedFault}
 use Rattle.rx_seeded.specs.declared.fault.SeedFault.TheVariants.{Mask, Memory}
+
+-- the streams of the masks of the rows of a kind
+abbrev pub row_masks : StreamKind → List ℕ → ℕ → Draws
+row_masks kind mask_seed row = stream_of mask_seed (stream_number kind row)
 
 pub record IsSeed (seed : List ℕ) : Type 0 where
   pub size : length seed ≡ 32

@@ -6,15 +6,18 @@ mod cipher;
 mod fault;
 mod filling;
 mod fits;
+mod fresh;
 mod kind;
 mod laws;
 mod masks;
+mod seeded_rows;
 mod server;
 
 pub use cipher::{
     SEEDED_HEAD_SIZE, decode_cipher, decode_seeded_cipher, encode_seeded_cipher, seeded_writer,
 };
 pub use fault::SeedFault;
+pub use fresh::encode_fresh_server;
 pub use kind::{FileKind, begins, file_kind};
 pub use laws::seeded_file_laws;
 pub use server::{decode_seeded_server, decode_server, encode_made_server, encode_seeded_server};

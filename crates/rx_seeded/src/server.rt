@@ -1,10 +1,15 @@
 //! The seeded server file: a set, a mask seed and the bodies of a server key.
-ghost use Rattle.std.specs.Prelude.{◌≡◌, ◌+◌, ◌*◌, length, IfOk, IfErr, Ok, List, ℕ};
+ghost use Rattle.std.specs.Prelude.{◌≡◌, ◌++◌, ◌+◌, ◌*◌, ◌<◌, ◌^◌, codes, length, IfOk, IfErr, Ok, List, ℕ};
 ghost use Rattle.std.specs.Option.{option_or};
 ghost use Rattle.rx_params.specs.Acceptance.{Accepts};
+ghost use Rattle.rx_torus.specs.declared.kind.StreamKind.TheVariants.{BootMask, SwitchMask};
+ghost use Rattle.rx_params.specs.Derived.{large_dim};
+ghost use Rattle.rx_lwe.specs.Seeded.{switch_row_count};
+ghost use Rattle.rx_boot.specs.BootKeys.{boot_row_count};
 ghost use Rattle.rx_boot.specs.ServerKeys.{ServerWords};
 ghost use Rattle.rx_boot.specs.Seeded.{body_size, key_of_bodies, key_bodies, redrawn_key};
 ghost use Rattle.rx_codec.specs.Reading.{Gives, GivesExactly, IsFaultOf};
+ghost use Rattle.rx_codec.specs.ParamsFields.{params_bytes};
 ghost use Rattle.rx_codec.specs.WordFields.{words_in};
 ghost use Rattle.rx_codec.specs.ServerFile.{IsServer};
 ghost use Rattle.rx_seeded.specs.Masks.{Seeds, first_unlike as first_unlike_of};
@@ -15,9 +20,12 @@ use crate::SeedFault;
 use crate::fits::{key_fits, seed_fits};
 use crate::kind::begins;
 use crate::masks::first_unlike;
-use rx_boot::{ServerKey, body_words};
-use rx_codec::{CodecFault, Reader, read_params, words_of, write_params, write_words};
+use crate::seeded_rows::{Rows, row_words};
+use rx_boot::{BootKey, ServerKey, body_words};
+use rx_codec::{CodecFault, Reader, read_params, write_params, write_words};
+use rx_lwe::SwitchKey;
 use rx_params::Params;
+use rx_torus::{StreamKind, Words};
 use std::alloc::{AllocError, Global};
 
 /// The bytes of a seeded file before its bodies: the magic, the fields of the set and the mask seed.
@@ -96,8 +104,54 @@ fn key_in(
     ensures { IfOk result (λ k.
         k ≡ key_of_bodies p.now mask_seed.now (words_in (body_size p.now) bytes.now)) }
 {
-    let bodies = words_of(alloc, body_words(p), bytes)?;
-    ServerKey::of_bodies(alloc, p, mask_seed, &bodies)
+    let rows = boot_rows(p);
+    let (front, back) = bytes.split_at(8 * (rows.count as usize * rows.wide));
+    let boot = row_words(alloc, rows, mask_seed, front)?;
+    let switch = row_words(alloc, switch_rows(p), mask_seed, back)?;
+    Ok(ServerKey {
+        params: *p,
+        boot: BootKey::from_words(Words::from_vec(boot)),
+        switch: SwitchKey::of_words(p, Words::from_vec(switch)),
+    })
+}
+
+/// The bootstrapping rows of a set.
+fn boot_rows(p: &Params) -> Rows
+    requires { Accepts p.now }
+    ensures rows { result ≡ record {
+      kind = BootMask;
+      masks = large_dim p.now;
+      wide = p.now.poly_size;
+      count = boot_row_count p.now;
+    } }
+    ensures some { 0 < result.masks }
+    ensures narrow { result.masks + result.wide < 2 ^ 24 }
+{
+    let masks = p.large_dim() as usize;
+    Rows {
+        kind: StreamKind::BootMask,
+        masks,
+        wide: p.poly_size as usize,
+        count: p.lwe_dim * ((p.glwe_dim + 1) * p.pbs_level),
+    }
+}
+
+/// The switch rows of a set.
+fn switch_rows(p: &Params) -> Rows
+    requires { Accepts p.now }
+    ensures { result ≡ record {
+      kind = SwitchMask;
+      masks = p.now.lwe_dim;
+      wide = 1;
+      count = switch_row_count p.now;
+    } }
+{
+    Rows {
+        kind: StreamKind::SwitchMask,
+        masks: p.lwe_dim as usize,
+        wide: 1,
+        count: p.large_dim() * p.ks_level,
+    }
 }
 
 /// The one seeded file of a mask seed and a server key: 76 bytes, and eight more for each word of the bodies. It is
@@ -180,11 +234,24 @@ fn spell(
     requires size { length bodies.now ≡ body_size key.now.params }
     ensures { IfOk result (λ bytes. bytes.items ≡ seeded_server_bytes mask_seed.now key.now) }
 {
-    let size = SEEDED_HEAD_SIZE + 8 * bodies.len();
-    let mut out = Vec::with_capacity(alloc, size)?;
-    out.extend_from_slice(b"RXS2")?;
-    write_params(&mut out, &key.params)?;
-    out.extend_from_slice(mask_seed)?;
+    let mut out = seeded_head(alloc, &key.params, mask_seed)?;
     write_words(&mut out, bodies)?;
+    Ok(out)
+}
+
+/// The head of the seeded file of a set and a mask seed. Memory is taken for the whole file.
+pub(crate) fn seeded_head(
+    alloc: Global,
+    p: &Params,
+    mask_seed: &[u8; 32],
+) -> Result<Vec<u8>, AllocError>
+    requires { Accepts p.now }
+    ensures { IfOk result (λ bytes.
+        bytes.items ≡ codes "RXS2" ++ params_bytes p.now ++ mask_seed.now) }
+{
+    let mut out = Vec::with_capacity(alloc, SEEDED_HEAD_SIZE + 8 * body_words(p))?;
+    out.extend_from_slice(b"RXS2")?;
+    write_params(&mut out, p)?;
+    out.extend_from_slice(mask_seed)?;
     Ok(out)
 }

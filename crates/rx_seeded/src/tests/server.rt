@@ -1,7 +1,8 @@
 //! Server files of the small set by their bodies: 8,192 words of bootstrapping rows, and then 1,536 of switch rows.
 use crate::tests::cipher::{FIELDS, MASK_SEED, changed};
 use crate::{
-    SeedFault, decode_seeded_server, decode_server, encode_made_server, encode_seeded_server,
+    SeedFault, decode_seeded_server, decode_server, encode_fresh_server, encode_made_server,
+    encode_seeded_server,
 };
 use rx_boot::{ServerKey, seeded_key_laws};
 use rx_codec::{CodecFault, encode_server};
@@ -52,6 +53,8 @@ fn a_made_key(rt: HostRuntime) -> Result<(), Fail> {
     let key = ServerKey::make(rt.alloc(), &p, &[7; 32], &MASK_SEED)?;
     seeded_key_laws();
     let file = encode_made_server(rt.alloc(), &key, &MASK_SEED)?;
+    let fresh = encode_fresh_server(rt.alloc(), &p, &[7; 32], &MASK_SEED)?;
+    assert_eq!(rt; fresh.as_slice(), file.as_slice());
     let again = decode_seeded_server(rt.alloc(), &file)?;
     assert_eq!(rt; again.boot.words(), key.boot.words());
     assert_eq!(rt; again.switch.words(), key.switch.words());
