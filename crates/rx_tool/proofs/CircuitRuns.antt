@@ -12,6 +12,7 @@ use Rattle.rx_params.specs.declared.kind.Kind.{Kind}
 use Rattle.rx_params.specs.declared.kind.Kind.TheVariants.{Int as WholeNumber, Bit as OneBit}
 use Rattle.rx_params.specs.Kinds.{greatest, block_count, digit_at}
 use Rattle.rx_lwe.specs.Secret.{large_key}
+use Rattle.rx_block.specs.Keeps.{AreKept}
 use Rattle.rx_net.specs.declared.net.NetInput.{NetInput}
 use Rattle.rx_net.specs.declared.net.NetOutput.{NetOutput}
 use Rattle.rx_net.specs.declared.net.Net.{Net}
@@ -27,7 +28,7 @@ use Rattle.rx_language.specs.Words.{is_input, is_output}
 use Rattle.rx_language.specs.Programs.{Program, Port, IsProgram, AreLawful, ports_in, steps_of, inputs_of, outputs_of}
 use Rattle.rx_meaning.specs.Values.{AreWithin, outputs_for}
 use Rattle.rx_circuit.specs.declared.values.ValueLine.{ValueLine}
-use Rattle.rx_circuit.specs.Values.{IsValueLine, NamesOnce}
+use Rattle.rx_circuit.specs.Values.{IsValueLine}
 use Rattle.rx_circuit.specs.Outputs.{number_line, number_lines, port_names}
 use Rattle.rx_circuit.proofs.Ports.{are_within}
 use Rattle.rx_codec.specs.declared.client.Client.{Client}
@@ -40,8 +41,8 @@ use Rattle.rx_server.specs.declared.fault.InputFault.TheVariants.{Form, Degree, 
 use Rattle.rx_server.specs.Inputs.{items_of, named, same_kind, tags_fault, item_fault, found_fault, first_fault, digits_found}
 use Rattle.rx_compile.specs.Compiled.{Compiled, Form as OutputForm, net_input, form_of_output, form_of_port, input_digits, port_digits}
 use Rattle.rx_tool.specs.Run.{output_digits}
-use Rattle.rx_tool.specs.WholeWay.{Batch, batch_ciphers, batch_lines, batch_digits, plain_digits, lines_of, plain_lines, run_over, digits_over, decrypted_lines, IsBatch, GoTogether, WholeWayLaws}
-use Rattle.rx_tool.specs.CircuitWay.{CircuitGoes, circuit_lines, CircuitWayLaws}
+use Rattle.rx_tool.specs.WholeWay.{Batch, batch_ciphers, batch_lines, batch_digits, plain_digits, lines_of, plain_lines, cells_over, values_over, run_over, digits_over, decrypted_lines, IsBatch, GoTogether, WholeWayLaws}
+use Rattle.rx_tool.specs.CircuitWay.{InputsOnce, CircuitGoes, circuit_lines, circuit_cells, CircuitWayLaws}
 use Rattle.rx_tool.proofs.PlainRuns.{inputs_plain}
 use Rattle.rx_tool.proofs.FoundLines.{lines_named, only_named, IsFound, AreFound, are_found}
 
@@ -178,22 +179,22 @@ no_fault_of_one input m v (item ∷ []) are kind bits degree noise = no_item_fau
 no_fault_of_one input m v (item ∷ more ∷ items) are kind bits degree noise = absurd are.1
 
 no_fault : (m : ℕ) (items : List Item) (lines : List ValueLine) (ports : List Port) (numbers : List ℕ) → AreFreshItems m items lines →
-    NamesOnce lines → AreFound lines ports numbers → first_fault (map (net_input m) ports) items ≡ None
+    InputsOnce ports lines → AreFound lines ports numbers → first_fault (map (net_input m) ports) items ≡ None
 no_fault m items lines [] [] are once found = refl
 no_fault m items lines [] (number ∷ numbers) are once found = absurd found
 no_fault m items lines (port ∷ ports) [] are once found = absurd found
 no_fault m items lines (port ∷ ports) (number ∷ numbers) are once found =
     let v : ValueLine = found.0.line in
     let own : AreFreshItems m (named port.name items) (v ∷ []) =
-    subst (AreFreshItems m (named port.name items)) (only_named port.name lines v once found.0.named) (named_fresh m port.name items lines are) in
+    subst (AreFreshItems m (named port.name items)) (only_named port.name lines v once.0 found.0.named) (named_fresh m port.name items lines are) in
     ap (λ fault. option_or fault (first_fault (map (net_input m) ports) items))
     (no_fault_of_one (net_input m port) m v (named port.name items) own (sym found.0.kind) (sym found.0.bits)
     (ap (λ k. greatest k m) (sym found.0.kind)) refl)
-    ∙ no_fault m items lines ports numbers are once found.1
+    ∙ no_fault m items lines ports numbers are once.1 found.1
 
 -- ---- their digits
 
-digits_are : (m : ℕ) (lines : List ValueLine) (ports : List Port) (numbers : List ℕ) → NamesOnce lines → AreFound lines ports numbers →
+digits_are : (m : ℕ) (lines : List ValueLine) (ports : List Port) (numbers : List ℕ) → InputsOnce ports lines → AreFound lines ports numbers →
     plain_digits m (map (net_input m) ports) lines ≡ input_digits m ports numbers
 unfolding input_digits
 digits_are m lines [] [] once found = refl
@@ -203,9 +204,9 @@ digits_are m lines (port ∷ ports) (number ∷ numbers) once found =
     let v : ValueLine = found.0.line in
     let later : List ℕ = plain_digits m (map (net_input m) ports) lines in
     let of_kind : Kind → List ℕ = λ k. digits_of m (block_count k m v.bits) v.value in
-    ap (λ vs. flat_map (line_digits m) vs ++ later) (only_named port.name lines v once found.0.named)
+    ap (λ vs. flat_map (line_digits m) vs ++ later) (only_named port.name lines v once.0 found.0.named)
     ∙ ap (λ ds. ds ++ later) (append-nil (line_digits m v) ∙ own_digits m port number v found.0.kind found.0.bits found.0.value)
-    ∙ ap (λ ds. port_digits m port number ++ ds) (digits_are m lines ports numbers once found.1)
+    ∙ ap (λ ds. port_digits m port number ++ ds) (digits_are m lines ports numbers once.1 found.1)
   where
     own_digits : (m : ℕ) (port : Port) (number : ℕ) (v : ValueLine) → v.kind ≡ (net_input m port).kind → v.bits ≡ (net_input m port).bits →
         v.value ≡ number → line_digits m v ≡ port_digits m port number
@@ -296,12 +297,19 @@ module _ (c : Client) (p : Program) (net : Net) (batches : List Batch) (numbers 
   numbers_are : outs net (values_after (plain_digits net.space net.inputs (batch_lines batches)) net.jobs) ≡ outputs_for p numbers
   numbers_are = ap (λ ds. outs net (values_after ds net.jobs)) digits ∙ goes.compiled.values numbers within_all
 
+  found_plain : digits_found net.inputs (items_of (batch_ciphers c batches)) (batch_digits c.params.message_bits batches)
+      ≡ plain_digits net.space net.inputs (batch_lines batches)
+  found_plain =
+      inputs_plain c net.inputs batches ∙ ap (λ k. plain_digits k net.inputs (batch_lines batches)) (sym (goes.compiled.space ∙ goes.space))
+
+  cell_values : values_over c net batches ≡ circuit_cells p net numbers
+  cell_values = ap (λ ds. values_after ds net.jobs) (found_plain ∙ digits)
+
   values : map (number_of p.space) (digits_over c net batches) ≡ outputs_for p numbers
   values =
       let m : ℕ = c.params.message_bits in
       let ds : List ℕ = digits_found net.inputs (items_of (batch_ciphers c batches)) (batch_digits m batches) in
-      let same : ds ≡ plain_digits net.space net.inputs (batch_lines batches) =
-      inputs_plain c net.inputs batches ∙ ap (λ k. plain_digits k net.inputs (batch_lines batches)) (sym (goes.compiled.space ∙ goes.space)) in
+      let same : ds ≡ plain_digits net.space net.inputs (batch_lines batches) = found_plain in
       map_twice (number_of p.space) (values_of (values_after ds net.jobs)) net.outputs
       ∙ ap (λ k. map (λ (o : NetOutput). number_of k (values_of (values_after ds net.jobs) o)) net.outputs) (sym goes.compiled.space)
       ∙ ap (λ xs. outs net (values_after xs net.jobs)) same
@@ -317,6 +325,9 @@ pub circuit_way : WholeWayLaws → CircuitWayLaws
 circuit_way laws = record {
   together = λ c p net batches numbers goes. together c p net batches numbers goes;
   digits = λ c p net batches numbers goes. digits c p net batches numbers goes;
+  cells = λ c server_mask p net batches numbers goes.
+      subst (AreKept c.params (large_key c.params c.seed) (cells_over c server_mask net batches)) (cell_values c p net batches numbers goes)
+      (laws.cells c server_mask net batches (together c p net batches numbers goes));
   kept = λ c server_mask p net batches numbers goes. laws.kept c server_mask net batches (together c p net batches numbers goes);
   values = λ c p net batches numbers goes. values c p net batches numbers goes;
   undamaged = λ c server_mask p net batches numbers goes. laws.undamaged c server_mask net batches (together c p net batches numbers goes);

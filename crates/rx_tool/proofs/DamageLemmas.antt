@@ -41,12 +41,13 @@ use Rattle.rx_report.specs.Reports.{Report, status_of, not_accepted, malformed_b
 use Rattle.rx_tool.specs.declared.command.Source.{Source}
 use Rattle.rx_tool.specs.declared.command.Source.TheVariants.{Named, File}
 use Rattle.rx_tool.specs.declared.command.Command.{Command}
-use Rattle.rx_tool.specs.declared.command.Command.TheVariants.{Check, MakeClient, Keygen, Encrypt, Compile, Run, Decrypt, Trip, Plain, Make, Migrate, Expand}
+use Rattle.rx_tool.specs.declared.command.Command.TheVariants.{Check, MakeClient, Keygen, Encrypt, Compile, Fold, Run, Decrypt, Trip, Plain, Make, Migrate, Expand}
 use Rattle.rx_tool.specs.declared.command.TripWords.{TripWords}
 use Rattle.rx_tool.specs.Sources.{read_refusal, source_refusal}
 use Rattle.rx_tool.specs.Keygen.{keygen_refused, keygen_refusal}
 use Rattle.rx_tool.specs.Encrypt.{width_refusal, encrypt_refused, encrypt_refusal}
 use Rattle.rx_tool.specs.Compile.{compile_refused, compile_refusal}
+use Rattle.rx_tool.specs.Fold.{fold_refused, fold_refusal}
 use Rattle.rx_tool.specs.Refusals.{space_difference, set_difference, workers_refusal, jobs_refusal, board_refusal, limits_refusal}
 use Rattle.rx_tool.specs.Run.{one_malformed, malformed_input, ciphers_of, inputs_refusal, values_refusal, run_refused, run_refusal}
 use Rattle.rx_tool.specs.Trip.{trip_values_refusal, trip_refused, trip_refusal}
@@ -183,6 +184,15 @@ of_compile circuit (file ∷ []) = of_read (circuit_from file)
     of_read (Ok p) = of_test _ _ (λ e. cc)
 of_compile circuit (file ∷ more ∷ files) = tt
 
+of_fold : (net : List ℕ) (files : List (List ℕ)) → NotDamage (fold_refusal net files)
+of_fold net [] = tt
+of_fold net (file ∷ []) = of_read (net_from file)
+  where
+    of_read : (read : Result Net CodecFault) → NotDamage (fold_refused net read)
+    of_read (Err fault) = of_binary net fault
+    of_read (Ok n) = tt
+of_fold net (file ∷ more ∷ files) = tt
+
 of_given : (found : Result (List ℕ) InputError) → NotDamage (inputs_refused found)
 of_given (Ok numbers) = tt
 of_given (Err (MissingNumber name)) = λ e. cc
@@ -283,6 +293,7 @@ of_files (MakeClient source seed client) files line e = absurd (other_status _ l
 of_files (Keygen client mask_seed server) files line e = absurd (other_status _ line (of_keygen client files) e)
 of_files (Encrypt client mask_seed noise_seed values out) files line e = absurd (other_status _ line (of_encrypt client values files) e)
 of_files (Compile circuit net) files line e = absurd (other_status _ line (of_compile circuit files) e)
+of_files (Fold net out) files line e = absurd (other_status _ line (of_fold net files) e)
 of_files (Run server net workers out inputs) files line e = absurd (other_status _ line (of_run server net workers inputs files) e)
 of_files (Decrypt client input) files line e = tt
 of_files (Trip t) files line e = absurd (other_status _ line (of_trip t files) e)

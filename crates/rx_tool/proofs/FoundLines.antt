@@ -1,9 +1,9 @@
--- The lines of a circuit's inputs, among value lines of which no two have one name.
-use Rattle.std.proofs.Common.{◌≡◌, ◌==◌, ℕ, Bool, true, false, cond, List, [], ◌∷◌, ◌++◌, map, Option, Some, None, Result, Ok, Err, refl, sym, ap, subst, ◌∙◌, append_assoc}
+-- The lines of a circuit's inputs, among value lines of which no two have the name of an input.
+use Rattle.std.proofs.Common.{◌≡◌, ◌≤◌, ◌==◌, ℕ, Bool, true, false, cond, List, [], ◌∷◌, ◌++◌, length, map, Option, Some, None, Result, Ok, Err, refl, sym, ap, subst, arith, ◌∙◌, append_assoc}
 use Rattle.std.specs.List.{flat_map, filter, list_any, AllByRecursion}
 use Rattle.std.specs.Str.{bytes_eq}
 use Rattle.std.proofs.lemmas.Bool.{and_parts, or_parts, eqb-true}
-use Rattle.std.proofs.lemmas.List.{append-nil}
+use Rattle.std.proofs.lemmas.List.{append-nil, nil_from_length}
 use Rattle.std.proofs.lemmas.Slice.Eq.{bytes_eq-Decides}
 use Rattle.rx_params.specs.declared.kind.Kind.{Kind}
 use Rattle.rx_params.specs.declared.kind.Kind.TheVariants.{Int as WholeNumber, Bit as OneBit}
@@ -17,6 +17,7 @@ use Rattle.rx_circuit.specs.declared.inputs.InputError.TheVariants.{Form}
 use Rattle.rx_circuit.specs.Values.{has_name, NamesOnce}
 use Rattle.rx_circuit.specs.Inputs.{line_named, is_file_kind, fits, input_from, found_after}
 use Rattle.rx_compile.specs.Compiled.{file_kind}
+use Rattle.rx_tool.specs.CircuitWay.{InputsOnce}
 
 -- the lines of a name
 abbrev pub lines_named : List ℕ → List ValueLine → List ValueLine
@@ -31,23 +32,41 @@ none_named name (v ∷ lines) none =
     let rest : lines_named name lines ≡ [] = none_named name lines parts.1 in
     ap (λ (b : Bool). cond b (v ∷ lines_named name lines) (lines_named name lines)) parts.0 ∙ rest
 
+-- where no two lines have one name, no more than one line has a name
+once_named : (name : List ℕ) (lines : List ValueLine) → NamesOnce lines → length (lines_named name lines) ≤ 1
+once_named name [] once = omega arith
+once_named name (v ∷ lines) once =
+    by_first name v lines (bytes_eq v.name name) refl once (once_named name lines once.1)
+  where
+    by_first : (name : List ℕ) (v : ValueLine) (lines : List ValueLine) (here : Bool) → bytes_eq v.name name ≡ here →
+        NamesOnce (v ∷ lines) → length (lines_named name lines) ≤ 1 →
+        length (cond here (v ∷ lines_named name lines) (lines_named name lines)) ≤ 1
+    by_first name v lines true here once rest =
+        let named : v.name ≡ name = (bytes_eq-Decides v.name name).0 here in
+        let none : has_name name lines ≡ false = subst (λ n. has_name n lines ≡ false) named once.0 in
+        omega (arith, ap length (none_named name lines none))
+    by_first name v lines false here once rest = rest
+
+pub inputs_once : (ports : List Port) (lines : List ValueLine) → NamesOnce lines → InputsOnce ports lines
+inputs_once [] lines once = tt
+inputs_once (port ∷ ports) lines once = (once_named port.name lines once, inputs_once ports lines once)
+
 -- the line that was found is the only one of its name
-pub only_named : (name : List ℕ) (lines : List ValueLine) (v : ValueLine) → NamesOnce lines → line_named name lines ≡ Some v →
-    lines_named name lines ≡ v ∷ []
+pub only_named : (name : List ℕ) (lines : List ValueLine) (v : ValueLine) → length (lines_named name lines) ≤ 1 →
+    line_named name lines ≡ Some v → lines_named name lines ≡ v ∷ []
 only_named name [] v once found = absurd cc
 only_named name (w ∷ lines) v once found =
-    by_first name w lines v (bytes_eq w.name name) refl once found (only_named name lines v once.1)
+    by_first name w lines v (bytes_eq w.name name) once found (only_named name lines v)
   where
-    by_first : (name : List ℕ) (w : ValueLine) (lines : List ValueLine) (v : ValueLine) (here : Bool) → bytes_eq w.name name ≡ here →
-        NamesOnce (w ∷ lines) → cond here (Some w) (line_named name lines) ≡ Some v →
-        (line_named name lines ≡ Some v → lines_named name lines ≡ v ∷ []) →
+    by_first : (name : List ℕ) (w : ValueLine) (lines : List ValueLine) (v : ValueLine) (here : Bool) →
+        length (cond here (w ∷ lines_named name lines) (lines_named name lines)) ≤ 1 →
+        cond here (Some w) (line_named name lines) ≡ Some v →
+        (length (lines_named name lines) ≤ 1 → line_named name lines ≡ Some v → lines_named name lines ≡ v ∷ []) →
         cond here (w ∷ lines_named name lines) (lines_named name lines) ≡ v ∷ []
-    by_first name w lines v true here once found rest =
+    by_first name w lines v true once found rest =
         let same : w ≡ v = cc in
-        let named : w.name ≡ name = (bytes_eq-Decides w.name name).0 here in
-        let none : has_name name lines ≡ false = subst (λ n. has_name n lines ≡ false) named once.0 in
-        ap (λ ws. w ∷ ws) (none_named name lines none) ∙ ap (λ (u : ValueLine). u ∷ []) same
-    by_first name w lines v false here once found rest = rest found
+        ap (λ ws. w ∷ ws) (nil_from_length (lines_named name lines) (omega arith)) ∙ ap (λ (u : ValueLine). u ∷ []) same
+    by_first name w lines v false once found rest = rest once found
 
 -- ---- the inputs that were found
 

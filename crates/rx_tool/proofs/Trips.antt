@@ -18,7 +18,7 @@ use Rattle.rx_language.specs.Texts.{IsCircuit}
 use Rattle.rx_language.specs.Reading.{circuit_from}
 use Rattle.rx_meaning.specs.Bounds.{jobs_of}
 use Rattle.rx_circuit.specs.declared.values.ValueLine.{ValueLine}
-use Rattle.rx_circuit.specs.Values.{NamesOnce, AreValues, ValuesText, values_from}
+use Rattle.rx_circuit.specs.Values.{AreValues, ValuesText, values_from}
 use Rattle.rx_circuit.specs.Inputs.{found_inputs}
 use Rattle.rx_codec.specs.declared.client.Client.{Client}
 use Rattle.rx_codec.specs.declared.cipher.Cipher.{Cipher}
@@ -42,12 +42,13 @@ use Rattle.rx_tool.specs.Encrypt.{encryption}
 use Rattle.rx_tool.specs.Compile.{size_line}
 use Rattle.rx_tool.specs.Run.{input_blocks, evaluation, jobs_line}
 use Rattle.rx_tool.specs.Decrypt.{PrintsKept}
-use Rattle.rx_tool.specs.WholeWay.{Batch, batch_lines, GoTogether}
-use Rattle.rx_tool.specs.CircuitWay.{CircuitGoes, CircuitWayLaws}
+use Rattle.rx_tool.specs.WholeWay.{Batch, batch_of, batch_lines, GoTogether}
+use Rattle.rx_tool.specs.CircuitWay.{InputsOnce, CircuitGoes, CircuitWayLaws}
 use Rattle.rx_tool.specs.declared.outcome.Stop.{Stop}
 use Rattle.rx_tool.specs.Answers.{StopsFor}
 use Rattle.rx_tool.specs.Trip.{trip_values_refusal, trip_refused, trip_refusal, MayTrip, TripsOver, TripDoes, TripsWith, outputs_name, trip_files}
 use Rattle.rx_tool.proofs.NetRuns.{outputs_fit, run_does}
+use Rattle.rx_tool.proofs.FoundLines.{inputs_once}
 
 -- fewer jobs than those within the limits are within them
 pub fewer_jobs : (p : Params) (workers jobs bound : ℕ) → jobs ≤ bound → IsWithinLimits p workers bound → IsWithinLimits p workers jobs
@@ -65,11 +66,6 @@ fewer_jobs p workers jobs bound few within =
 key_set : (p : Params) (seed mask : List ℕ) → (server_key p seed mask).params ≡ p
 unfolding server_key
 key_set p seed mask = refl
-
--- ---- the lines of a value file, as one batch
-
-abbrev batch_of : List ℕ → List ℕ → List ValueLine → Batch
-batch_of mask noise values = record { mask_seed = mask; noise_seed = noise; lines = values }
 
 -- What is known before anything is made.
 pub record IsReady (t : TripWords) (c : Client) (p : Program) (values : List ValueLine) : Type 0 where
@@ -98,7 +94,7 @@ module _ (circuit : CircuitWayLaws) (server : ServerLaws) (t : TripWords) (c : C
         space = ready.may.space;
         compiled = compiled;
         each = (record { values = ready.are_values; widths = ready.may.widths }, tt);
-        once = subst NamesOnce (sym all) ready.are_values.once;
+        once = subst (InputsOnce (inputs_of p)) (sym all) (inputs_once (inputs_of p) values ready.are_values.once);
         found = ap (found_inputs (inputs_of p)) all ∙ ready.may.inputs.found;
       }
 
@@ -233,6 +229,11 @@ over_made_key circuit server_laws t c p values ready net compiled blocks x serve
           ∙ ap (λ (y : Cipher). item_lines c.params (large_key c.params c.seed) y.items) made.evaluated
           ∙ ap (λ bs. item_lines c.params (large_key c.params c.seed) (evaluation key net bs).items) made.found
           ∙ circuit.lines c t.key_seed p net one numbers (goes circuit server_laws t c p values ready net compiled);
+      client = c;
+      compiled = net;
+      is_client = of_client;
+      is_net = made.net_is;
+      cells_keep = circuit.cells c t.key_seed p net one numbers (goes circuit server_laws t c p values ready net compiled);
     }
 
 pub trips_with : (circuit : CircuitWayLaws) (server_laws : ServerLaws) (t : TripWords) (c : Client) (p : Program) (values : List ValueLine) →

@@ -10,20 +10,22 @@ use Rattle.rx_boot.specs.BootKeys.{boot_size}
 use Rattle.rx_boot.specs.ServerKeys.{ServerWords, server_key}
 use Rattle.rx_boot.specs.Laws.{ServerKeyLaws}
 use Rattle.rx_block.specs.declared.block.Block.{Block}
+use Rattle.rx_block.specs.Keeps.{AreKept}
 use Rattle.rx_crew.specs.Evaluation.{evaluated}
 use Rattle.rx_crew.specs.Laws.{KeepingLaws}
 use Rattle.rx_codec.specs.declared.client.Client.{Client}
+use Rattle.rx_codec.specs.declared.cipher.Item.{Item}
 use Rattle.rx_codec.specs.declared.cipher.Cipher.{Cipher}
 use Rattle.rx_codec.specs.Kept.{AreItemsKept}
 use Rattle.rx_client.specs.Encrypt.{line_digits}
 use Rattle.rx_client.specs.Decrypt.{kept_lines, first_damage}
 use Rattle.rx_client.specs.Laws.{ReadingLaws, EncryptingLaws}
 use Rattle.rx_client.proofs.Encrypted.{values_fit, values_params}
-use Rattle.rx_server.specs.Inputs.{items_of, first_fault}
+use Rattle.rx_server.specs.Inputs.{items_of, first_fault, digits_found}
 use Rattle.rx_server.specs.Laws.{AreCiphersOf, AreCellBlocks, ServerLaws}
 use Rattle.rx_tool.specs.Encrypt.{encryption}
 use Rattle.rx_tool.specs.Run.{input_blocks, KeepsItems}
-use Rattle.rx_tool.specs.WholeWay.{Batch, batch_ciphers, batch_lines, batch_digits, run_over, digits_over, decrypted_lines, plain_lines, IsBatch, GoTogether, WholeWayLaws}
+use Rattle.rx_tool.specs.WholeWay.{Batch, batch_ciphers, batch_lines, batch_digits, cells_over, values_over, run_over, digits_over, decrypted_lines, plain_lines, IsBatch, GoTogether, WholeWayLaws}
 use Rattle.rx_tool.proofs.EvaluatedBlocks.{are_inputs}
 use Rattle.rx_tool.proofs.NetRuns.{cells_keep_run, keeps_items}
 use Rattle.rx_tool.proofs.PlainRuns.{run_plain}
@@ -85,6 +87,23 @@ way_kept laws c server_mask net batches together =
     (laws.keys.secret c.params c.seed fields) (laws.keys.near c.params c.seed server_mask fields)
     (batches_kept laws c batches fields together.each)
 
+way_cells : LawsBelow → (c : Client) (server_mask : List ℕ) (net : Net) (batches : List Batch) → GoTogether c net batches →
+    AreKept c.params (large_key c.params c.seed) (cells_over c server_mask net batches) (values_over c net batches)
+unfolding server_key
+way_cells laws c server_mask net batches together =
+    let fields : FieldsInRange c.params = together.accepted.fields in
+    let large : List ℕ = large_key c.params c.seed in
+    let items : List Item = items_of (batch_ciphers c batches) in
+    let digits : List (List ℕ) = batch_digits c.params.message_bits batches in
+    let found : List Block = input_blocks net (batch_ciphers c batches) in
+    let fit : AreCellBlocks c.params net (input_cells net.space net.inputs) found =
+    laws.server.inputs c.params net (batch_ciphers c batches) together.space (batches_fit laws c batches together.accepted together.each) together.found in
+    laws.keeping.cells (server_key c.params c.seed server_mask) net found together.accepted
+    (laws.keys.boot_words c.params c.seed server_mask fields) together.is_net.legal together.space (are_inputs c.params net found fit)
+    (small_key c.params c.seed) large (digits_found net.inputs items digits)
+    (laws.keys.secret c.params c.seed fields) (laws.keys.near c.params c.seed server_mask fields)
+    (laws.server.found_kept c.params large net.inputs items digits (batches_kept laws c batches fields together.each))
+
 way_undamaged : LawsBelow → (c : Client) (server_mask : List ℕ) (net : Net) (batches : List Batch) → GoTogether c net batches →
     first_damage c.params (large_key c.params c.seed) (run_over c server_mask net batches).items ≡ None
 way_undamaged laws c server_mask net batches together =
@@ -106,4 +125,4 @@ way_plain laws c server_mask net batches together =
 
 pub whole_way : LawsBelow → WholeWayLaws
 whole_way laws =
-    record { kept = way_kept laws; undamaged = way_undamaged laws; lines = way_lines laws; plain = way_plain laws }
+    record { cells = way_cells laws; kept = way_kept laws; undamaged = way_undamaged laws; lines = way_lines laws; plain = way_plain laws }

@@ -4,13 +4,14 @@ use Rattle.std.specs.Prelude.{ℕ, List, [], ◌∷◌, codes, Option, None, if�
 use Rattle.std.specs.Str.{bytes_eq}
 use Rattle.rx_report.specs.Reports.{Report}
 use Rattle.rx_tool.specs.declared.command.Command.{Command}
-use Rattle.rx_tool.specs.declared.command.Command.TheVariants.{Check, MakeClient, Keygen, Encrypt, Compile, Run, Decrypt, Trip, Plain, Make, Migrate, Expand}
+use Rattle.rx_tool.specs.declared.command.Command.TheVariants.{Check, MakeClient, Keygen, Encrypt, Compile, Fold, Run, Decrypt, Trip, Plain, Make, Migrate, Expand}
 use Rattle.rx_tool.specs.Sources.{source_reads, source_refusal}
 use Rattle.rx_tool.specs.Check.{check_of, CheckDoes}
 use Rattle.rx_tool.specs.MakeClient.{client_of, ClientDoes}
 use Rattle.rx_tool.specs.Keygen.{keygen_of, keygen_refusal, KeygenDoes}
 use Rattle.rx_tool.specs.Encrypt.{encrypt_of, encrypt_refusal, EncryptDoes}
 use Rattle.rx_tool.specs.Compile.{compile_of, compile_refusal, CompileDoes}
+use Rattle.rx_tool.specs.Fold.{fold_of, fold_refusal, FoldDoes}
 use Rattle.rx_tool.specs.Run.{run_of, run_refusal, RunDoes}
 use Rattle.rx_tool.specs.Decrypt.{decrypt_of, decrypt_refusal, DecryptDoes}
 use Rattle.rx_tool.specs.Trip.{trip_of, trip_refusal, TripDoes}
@@ -28,6 +29,7 @@ command_of (word ∷ arguments) =
     else if bytes_eq word (codes "keygen") then keygen_of arguments
     else if bytes_eq word (codes "encrypt") then encrypt_of arguments
     else if bytes_eq word (codes "compile") then compile_of arguments
+    else if bytes_eq word (codes "fold") then fold_of arguments
     else if bytes_eq word (codes "run") then run_of arguments
     else if bytes_eq word (codes "decrypt") then decrypt_of arguments
     else if bytes_eq word (codes "trip") then trip_of arguments
@@ -44,6 +46,7 @@ reads_of (MakeClient source seed client) = source_reads source
 reads_of (Keygen client mask_seed server) = client ∷ []
 reads_of (Encrypt client mask_seed noise_seed values out) = client ∷ values ∷ []
 reads_of (Compile circuit net) = circuit ∷ []
+reads_of (Fold net out) = net ∷ []
 reads_of (Run server net workers out inputs) = server ∷ net ∷ inputs
 reads_of (Decrypt client input) = client ∷ input ∷ []
 reads_of (Trip t) = t.client ∷ t.circuit ∷ t.values ∷ []
@@ -59,6 +62,7 @@ command_refusal (MakeClient source seed client) files = source_refusal source fi
 command_refusal (Keygen client mask_seed server) files = keygen_refusal client files
 command_refusal (Encrypt client mask_seed noise_seed values out) files = encrypt_refusal client values files
 command_refusal (Compile circuit net) files = compile_refusal circuit files
+command_refusal (Fold net out) files = fold_refusal net files
 command_refusal (Run server net workers out inputs) files = run_refusal server net workers inputs files
 command_refusal (Decrypt client input) files = decrypt_refusal client input files
 command_refusal (Trip t) files = trip_refusal t files
@@ -75,6 +79,7 @@ Does (Keygen client mask_seed server) files writes lines = KeygenDoes mask_seed 
 Does (Encrypt client mask_seed noise_seed values out) files writes lines =
     EncryptDoes mask_seed noise_seed out files writes lines
 Does (Compile circuit net) files writes lines = CompileDoes net files writes lines
+Does (Fold net out) files writes lines = FoldDoes out files writes lines
 Does (Run server net workers out inputs) files writes lines = RunDoes out files writes lines
 Does (Decrypt client input) files writes lines = DecryptDoes files writes lines
 Does (Trip t) files writes lines = TripDoes t files writes lines

@@ -6,6 +6,7 @@ pub mod Keygen
 pub mod Encrypt
 pub mod Refusals
 pub mod Compile
+pub mod Fold
 pub mod Run
 pub mod Decrypt
 pub mod Plain
@@ -24,4 +25,5 @@ pub mod Told
 pub mod Outcome
 pub mod WholeWay
 pub mod CircuitWay
+pub mod FoldWay
 pub mod BothWays

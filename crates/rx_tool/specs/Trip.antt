@@ -3,18 +3,20 @@
 use Rattle.std.specs.Prelude.{ℕ, ◌≡◌, List, [], ◌∷◌, ◌++◌, codes, Option, Some, None, Result, Ok, Err}
 use Rattle.std.specs.Option.{option_map, option_and_then, option_or}
 use Rattle.rx_text.specs.declared.fault.LineFault.{LineFault}
-use Rattle.rx_language.specs.Programs.{Program, inputs_of, outputs_of}
+use Rattle.rx_net.specs.declared.net.Net.{Net}
+use Rattle.rx_lwe.specs.Secret.{large_key}
+use Rattle.rx_block.specs.Keeps.{AreKept}
+use Rattle.rx_language.specs.Programs.{Program, inputs_of}
 use Rattle.rx_language.specs.Texts.{IsCircuit}
 use Rattle.rx_language.specs.Reading.{circuit_from}
 use Rattle.rx_meaning.specs.Bounds.{jobs_of}
-use Rattle.rx_meaning.specs.Values.{outputs_for}
 use Rattle.rx_circuit.specs.declared.values.ValueLine.{ValueLine}
 use Rattle.rx_circuit.specs.Values.{ValuesText, values_from}
 use Rattle.rx_circuit.specs.Inputs.{found_inputs}
-use Rattle.rx_circuit.specs.Outputs.{number_lines, port_names}
 use Rattle.rx_codec.specs.declared.client.Client.{Client}
 use Rattle.rx_codec.specs.declared.fault.CodecFault.{CodecFault}
 use Rattle.rx_codec.specs.ClientFile.{ClientFile, client_from}
+use Rattle.rx_codec.specs.NetFile.{NetFile}
 use Rattle.rx_client.specs.Encrypt.{first_width}
 use Rattle.rx_report.specs.Reports.{Report, malformed_binary, malformed_text}
 use Rattle.rx_tool.specs.declared.command.TripWords.{TripWords}
@@ -28,6 +30,8 @@ use Rattle.rx_tool.specs.Encrypt.{width_refusal, EncryptDoes}
 use Rattle.rx_tool.specs.Run.{word_number, RunDoes}
 use Rattle.rx_tool.specs.Decrypt.{DecryptDoes}
 use Rattle.rx_tool.specs.Plain.{inputs_refused}
+use Rattle.rx_tool.specs.WholeWay.{batch_of, cells_over}
+use Rattle.rx_tool.specs.CircuitWay.{circuit_cells, circuit_lines}
 
 abbrev pub words_of : List ℕ → List ℕ → List ℕ → List ℕ → List ℕ → List ℕ → ℕ → List ℕ → TripWords
 words_of client key_seed mask_seed noise_seed circuit values workers prefix = record {
@@ -106,8 +110,15 @@ abbrev pub trip_files : TripWords → List ℕ → List ℕ → List ℕ → Lis
 trip_files t server net inputs outputs =
     (server_name t, server) ∷ (net_name t, net) ∷ (inputs_name t, inputs) ∷ (outputs_name t, outputs) ∷ []
 
+-- each cell of the net keeps, under the client's key, the value that the net gives it for these numbers of the circuit's inputs
+abbrev pub CellsKeep : TripWords → Client → Program → Net → List ValueLine → List ℕ → Type 0
+CellsKeep t c p net values numbers =
+    AreKept c.params (large_key c.params c.seed) (cells_over c t.key_seed net (batch_of t.mask_seed t.noise_seed values ∷ []))
+    (circuit_cells p net numbers)
+
 -- The four files are those that the commands write, each over the files of those before it, and the lines are those that `decrypt`
--- prints of the last. And they are the lines of the circuit's values for the numbers that the value file gives its inputs.
+-- prints of the last. And they are the lines of the circuit's values for the numbers that the value file gives its inputs, and each
+-- cell of the net keeps its value for them.
 pub record TripsOver (t : TripWords) (client_file circuit_file value_file : List ℕ) (writes : List (List ℕ × List ℕ)) (lines : List ℕ) : Type 0 where
   pub server : List ℕ
   pub net : List ℕ
@@ -127,7 +138,12 @@ pub record TripsOver (t : TripWords) (client_file circuit_file value_file : List
   pub is_circuit : IsCircuit circuit_file circuit
   pub are_values : ValuesText value_file values
   pub found : found_inputs (inputs_of circuit) values ≡ Ok numbers
-  pub printed : lines ≡ number_lines (port_names (outputs_of circuit)) (outputs_for circuit numbers)
+  pub printed : lines ≡ circuit_lines circuit numbers
+  pub client : Client
+  pub compiled : Net
+  pub is_client : ClientFile client_file client
+  pub is_net : NetFile net compiled
+  pub cells_keep : CellsKeep t client circuit compiled values numbers
 
 abbrev pub TripDoes : TripWords → List (List ℕ) → List (List ℕ × List ℕ) → List ℕ → Type 0
 TripDoes t (client_file ∷ circuit_file ∷ value_file ∷ []) writes lines = TripsOver t client_file circuit_file value_file writes lines

@@ -10,6 +10,9 @@ use Rattle.rx_net.specs.declared.net.Net.{Net}
 use Rattle.rx_net.specs.Cells.{values_after}
 use Rattle.rx_net.specs.Named.{IsNet}
 use Rattle.rx_boot.specs.ServerKeys.{server_key}
+use Rattle.rx_block.specs.declared.block.Block.{Block}
+use Rattle.rx_block.specs.Keeps.{AreKept}
+use Rattle.rx_crew.specs.Evaluation.{evaluated}
 use Rattle.rx_circuit.specs.declared.values.ValueLine.{ValueLine}
 use Rattle.rx_circuit.specs.Values.{AreValues}
 use Rattle.rx_codec.specs.declared.client.Client.{Client}
@@ -20,13 +23,16 @@ use Rattle.rx_client.specs.Decrypt.{named_line, item_lines, kept_lines, first_da
 use Rattle.rx_server.specs.Inputs.{items_of, first_fault, digits_found}
 use Rattle.rx_net.specs.Numbers.{outs}
 use Rattle.rx_tool.specs.Encrypt.{encryption}
-use Rattle.rx_tool.specs.Run.{run_cipher, output_digits}
+use Rattle.rx_tool.specs.Run.{input_blocks, run_cipher, output_digits}
 
 -- value lines that are encrypted into one file, and the two seeds of that file
 pub record Batch : Type 0 where
   pub mask_seed : List ℕ
   pub noise_seed : List ℕ
   pub lines : List ValueLine
+
+abbrev pub batch_of : List ℕ → List ℕ → List ValueLine → Batch
+batch_of mask noise values = record { mask_seed = mask; noise_seed = noise; lines = values }
 
 -- the ciphertexts of some batches under a client's key
 abbrev pub batch_ciphers : Client → List Batch → List Cipher
@@ -42,6 +48,16 @@ batch_digits message_bits batches = flat_map (λ (b : Batch). map (line_digits m
 -- the ciphertext of a net's outputs over some batches, under the server key that the client's seed and a mask seed make
 abbrev pub run_over : Client → List ℕ → Net → List Batch → Cipher
 run_over c server_mask net batches = run_cipher (server_key c.params c.seed server_mask) net (batch_ciphers c batches)
+
+-- the blocks of all cells of that run, those of the inputs first
+abbrev pub cells_over : Client → List ℕ → Net → List Batch → List Block
+cells_over c server_mask net batches =
+    evaluated (server_key c.params c.seed server_mask) net (input_blocks net (batch_ciphers c batches))
+
+-- the values of all cells, for the digits of the inputs
+abbrev pub values_over : Client → Net → List Batch → List ℕ
+values_over c net batches =
+    values_after (digits_found net.inputs (items_of (batch_ciphers c batches)) (batch_digits c.params.message_bits batches)) net.jobs
 
 -- the digits of the outputs, for the digits of the inputs
 abbrev pub digits_over : Client → Net → List Batch → List (List ℕ)
@@ -87,9 +103,11 @@ pub record GoTogether (c : Client) (net : Net) (batches : List Batch) : Type 0 w
   pub space : net.space ≡ c.params.message_bits
   pub found : first_fault net.inputs (items_of (batch_ciphers c batches)) ≡ None
 
--- Whatever the seeds are: the outputs that a server gives keep the digits of the net's outputs, none of their blocks is damaged,
--- and the client decrypts the numbers that the net gives for the plain lines.
+-- Whatever the seeds are: each cell of a run keeps the value that the net gives it, the outputs that a server gives keep the digits
+-- of the net's outputs, none of their blocks is damaged, and the client decrypts the numbers that the net gives for the plain lines.
 pub record WholeWayLaws : Type 0 where
+  pub cells : (c : Client) (server_mask : List ℕ) (net : Net) (batches : List Batch) → GoTogether c net batches →
+      AreKept c.params (large_key c.params c.seed) (cells_over c server_mask net batches) (values_over c net batches)
   pub kept : (c : Client) (server_mask : List ℕ) (net : Net) (batches : List Batch) → GoTogether c net batches →
       AreItemsKept c.params (large_key c.params c.seed) (run_over c server_mask net batches).items (digits_over c net batches)
   pub undamaged : (c : Client) (server_mask : List ℕ) (net : Net) (batches : List Batch) → GoTogether c net batches →

@@ -7,6 +7,7 @@ ghost use Rattle.rx_tool.specs.MakeClient.{client_of, seed_of};
 ghost use Rattle.rx_tool.specs.Keygen.{keygen_of};
 ghost use Rattle.rx_tool.specs.Encrypt.{encrypt_of};
 ghost use Rattle.rx_tool.specs.Compile.{compile_of};
+ghost use Rattle.rx_tool.specs.Fold.{fold_of};
 ghost use Rattle.rx_tool.specs.Run.{run_of, word_number};
 ghost use Rattle.rx_tool.specs.Decrypt.{decrypt_of};
 ghost use Rattle.rx_tool.specs.Trip.{trip_of, trip_with};
@@ -68,6 +69,8 @@ pub enum Command<'a> {
     Encrypt(Word<'a>, [u8; 32], [u8; 32], Word<'a>, Word<'a>),
     /// `compile CIRCUIT NET`.
     Compile(Word<'a>, Word<'a>),
+    /// `fold NET OUT`.
+    Fold(Word<'a>, Word<'a>),
     /// `run SERVER NET WORKERS OUT IN..`, with any number of workers and up to 64 names of inputs.
     Run(Word<'a>, Word<'a>, u64, Word<'a>, Names<'a>),
     /// `decrypt CLIENT IN`.
@@ -100,6 +103,8 @@ pub fn parse(words: &[String]) -> Option<Command<'_>>
         parse_encrypt(arguments)
     } else if word == "compile" {
         parse_compile(arguments)
+    } else if word == "fold" {
+        parse_fold(arguments)
     } else if word == "run" {
         parse_run(arguments)
     } else if word == "decrypt" {
@@ -210,6 +215,15 @@ fn parse_compile(arguments: &[String]) -> Option<Command<'_>>
             Word::new(circuit.as_str()),
             Word::new(net.as_str()),
         )),
+        _ => None,
+    }
+}
+
+fn parse_fold(arguments: &[String]) -> Option<Command<'_>>
+    ensures { result ≡ fold_of (texts arguments.now) }
+{
+    match arguments {
+        [net, out] => Some(Command::Fold(Word::new(net.as_str()), Word::new(out.as_str()))),
         _ => None,
     }
 }
@@ -355,6 +369,7 @@ impl<'a> Command<'a> {
             Command::Keygen(client, _, _) => one(alloc, client),
             Command::Encrypt(client, _, _, values, _) => both(alloc, client, values),
             Command::Compile(circuit, _) => one(alloc, circuit),
+            Command::Fold(net, _) => one(alloc, net),
             Command::Run(server, net, _, _, inputs) => both_and(alloc, server, net, inputs),
             Command::Decrypt(client, input) => both(alloc, client, input),
             Command::Trip(words) => three(alloc, &words.client, &words.circuit, &words.values),

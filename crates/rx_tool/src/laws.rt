@@ -2,11 +2,13 @@
 ghost use Rattle.rx_tool.specs.WholeWay.{WholeWayLaws};
 ghost use Rattle.rx_tool.specs.CircuitWay.{CircuitWayLaws};
 ghost use Rattle.rx_tool.specs.BothWays.{BothWaysLaws};
+ghost use Rattle.rx_tool.specs.FoldWay.{FoldWayLaws};
 
 use rx_boot::server_key_laws;
 use rx_client::{encrypting_laws, reading_laws};
 use rx_codec::file_laws;
 use rx_crew::keeping_laws;
+use rx_fold::fold_laws;
 use rx_seeded::seeded_file_laws;
 use rx_server::server_laws;
 
@@ -36,4 +38,11 @@ pub fn both_ways_laws()
 {
     file_laws();
     seeded_file_laws();
+}
+
+/// A net that is compiled of a circuit stays one when it is folded, so the whole way of a circuit holds of it.
+pub fn fold_way_laws()
+    ensures { FoldWayLaws }
+{
+    fold_laws();
 }

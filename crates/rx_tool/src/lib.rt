@@ -11,7 +11,7 @@ mod outcome;
 mod top;
 mod words;
 
-pub use laws::{both_ways_laws, circuit_way_laws, whole_way_laws};
+pub use laws::{both_ways_laws, circuit_way_laws, fold_way_laws, whole_way_laws};
 pub use rx_crew::{Gate, OpenGate};
 pub use top::tool;
 

@@ -12,7 +12,7 @@ use crate::bytes::Bytes;
 use crate::command::{Command, parse};
 use crate::commands::{
     check_set, compile_circuit, decrypt_numbers, encrypt_numbers, evaluate_plain, expand_file,
-    make_client, make_files, make_server, migrate_file, run_net_files, run_trip,
+    fold_net, make_client, make_files, make_server, migrate_file, run_net_files, run_trip,
 };
 use crate::engine::{read_all, write_all};
 use crate::outcome::{Done, Output, Stop};
@@ -122,6 +122,7 @@ fn answer<R: Threads + Sync, G: Gate + Sync>(
             encrypt_numbers(alloc, client, mask_seed, noise_seed, values, out, files)
         }
         Command::Compile(circuit, net) => compile_circuit(alloc, circuit, net, files),
+        Command::Fold(net, out) => fold_net(alloc, net, out, files),
         Command::Run(server, net, workers, out, inputs) => run_net_files(
             rt, alloc, server, net, *workers, out, inputs, files, gate,
         ),

@@ -1,11 +1,10 @@
 //! compile CIRCUIT NET: writes the net file of a net of a circuit, and prints its jobs and its depth.
-ghost use Rattle.std.specs.Prelude.{◌≡◌, IfOk, length, string_bytes};
+ghost use Rattle.std.specs.Prelude.{◌≡◌, length};
 ghost use Rattle.rx_tool.specs.Answers.{Answers};
-ghost use Rattle.rx_tool.specs.Compile.{size_line};
 ghost use Rattle.rx_tool.specs.declared.command.Command.TheVariants.{Compile};
 
 use crate::bytes::Bytes;
-use crate::commands::shared::{one_file, stop_for};
+use crate::commands::shared::{one_file, size_line, stop_for};
 use crate::outcome::{Done, Stop};
 use crate::words::Word;
 use rx_circuit::{ParseError, parse};
@@ -13,7 +12,7 @@ use rx_codec::encode_net;
 use rx_compile::{CompileFault, compile};
 use rx_net::depth;
 use rx_report::{malformed_text, many_jobs};
-use std::alloc::{AllocError, Global};
+use std::alloc::Global;
 
 /// Compiles a circuit. It refuses, in this order, a malformed circuit, and one whose lines may take more than 65,536
 /// jobs.
@@ -46,11 +45,4 @@ pub fn compile_circuit(
         writes: done.writes,
         lines,
     })
-}
-
-/// The line of the jobs and the depth of a net.
-fn size_line(alloc: Global, jobs: usize, depth: u32) -> Result<String, AllocError>
-    ensures { IfOk result (λ line. string_bytes line ≡ size_line jobs depth) }
-{
-    format!(in alloc; "jobs {jobs} depth {depth}\n")
 }

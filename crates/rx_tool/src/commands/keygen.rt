@@ -7,10 +7,9 @@ use crate::bytes::Bytes;
 use crate::commands::shared::{one_file, stop_for};
 use crate::outcome::{Done, Stop};
 use crate::words::Word;
-use rx_boot::{ServerKey, seeded_key_laws};
 use rx_codec::decode_client;
 use rx_report::malformed_binary;
-use rx_seeded::encode_made_server;
+use rx_seeded::encode_fresh_server;
 use std::alloc::Global;
 
 /// Makes the seeded server file of a client. It refuses a malformed client file.
@@ -28,8 +27,6 @@ pub fn make_server(
         Ok(keys) => keys,
         Err(fault) => return Err(stop_for(malformed_binary(alloc, client.as_str(), fault))),
     };
-    let key = ServerKey::make(alloc, &keys.params, &keys.seed, mask_seed)?;
-    seeded_key_laws();
-    let bytes = encode_made_server(alloc, &key, mask_seed)?;
+    let bytes = encode_fresh_server(alloc, &keys.params, &keys.seed, mask_seed)?;
     Ok(one_file(alloc, server, bytes)?)
 }

@@ -3,6 +3,7 @@ ghost use Rattle.std.specs.Prelude.{◌≡◌, ◌∷◌, [], length, MatchResul
 ghost use Rattle.rx_params.specs.Derived.{bounds_of};
 ghost use Rattle.rx_params.specs.Acceptance.{Accepts};
 ghost use Rattle.rx_tool.specs.Answers.{Yields};
+ghost use Rattle.rx_tool.specs.Compile.{size_line};
 ghost use Rattle.rx_tool.specs.Sources.{IsSet, set_refusal, source_reads, source_refusal};
 ghost use Rattle.rx_tool.specs.declared.outcome.Stop.TheVariants.{Refused, Memory};
 
@@ -64,4 +65,11 @@ pub fn one_file(alloc: Global, name: &Word<'_>, bytes: Vec<u8>) -> Result<Done, 
     let mut done = Done::new(alloc);
     done.add_file(alloc, name.as_str(), bytes)?;
     Ok(done)
+}
+
+/// The line of the jobs and the depth of a net.
+pub fn size_line(alloc: Global, jobs: usize, depth: u32) -> Result<String, AllocError>
+    ensures { IfOk result (λ line. string_bytes line ≡ size_line jobs depth) }
+{
+    format!(in alloc; "jobs {jobs} depth {depth}\n")
 }

@@ -1,0 +1,5 @@
+use Rattle.rx_tool.proofs.Foldings.{fold_way}
+use Rattle.rx_tool.proofs.laws.fold_way_laws.Goals as goal
+
+pub returns : goal.returns
+returns c = fold_way c.fold_laws.ensures
