@@ -6,7 +6,7 @@ ghost use Rattle.rx_glwe.specs.Sizes.{glwe_size};
 ghost use Rattle.rx_boot.specs.BootKeys.{boot_row_count};
 ghost use Rattle.rx_boot.specs.FreshRows.{fresh_boot_row, fresh_switch_row};
 
-use crate::rows::write_row;
+use crate::rows::{RowSource, write_row};
 use rx_lwe::{SecretKey, switch_row_into};
 use rx_params::{Params, Rotation};
 use std::alloc::{AllocError, Global};
@@ -85,17 +85,15 @@ impl FreshRows {
         ensures { out.new ≡ fresh_boot_row self.now row }
     {
         let bits = self.small.bits();
-        write_row(
-            &self.params,
-            Rotation::Bits,
+        let source = RowSource {
+            p: &self.params,
+            rotation: Rotation::Bits,
             bits,
-            &self.large,
-            &self.mask_seed,
-            &self.client_seed,
-            row,
-            scratch,
-            out,
-        );
+            large: &self.large,
+            mask_seed: &self.mask_seed,
+            noise_seed: &self.client_seed,
+        };
+        write_row(&source, row, scratch, out);
     }
 
     /// Writes the switch row of a number, from 0: `lwe_dim` masks and the body, for which `out` has room.

@@ -6,7 +6,7 @@ use Rattle.rx_plan.specs.Values.{total}
 use Rattle.rx_cmp.specs.Selection.{chosen, kept_entry}
 use Rattle.rx_cmp.specs.Groups.{is_some, group_size, joined, grouped, any_jobs}
 use Rattle.rx_cmp.specs.Equality.{equal, differ, digits_differ}
-use Rattle.rx_cmp.specs.Order.{is_most, is_below, is_at_most, turned, ranked, signed_state, turned_top}
+use Rattle.rx_cmp.specs.Order.{is_at_most, is_less_signed, is_at_most_signed, turned, ranked, signed_state, turned_top}
 
 -- the index 6 is the bit 1 and the block 2
 choices : (chosen 1 7 9 ≡ 7) × (chosen 0 7 9 ≡ 9) × (kept_entry 1 4 6 ≡ 2) × (kept_entry 0 4 6 ≡ 0)
@@ -17,9 +17,9 @@ equality : (equal 3 3 ≡ 1) × (equal 3 2 ≡ 0) × (differ 3 3 ≡ 0) × (diff
     × (digits_differ 4 15 ≡ 0) × (digits_differ 4 14 ≡ 1)
 equality = (refl, refl, refl, refl, refl, refl)
 
-order : (is_most 3 3 ≡ 1) × (is_most 4 3 ≡ 0) × (is_below (negsuc 6) (pos 3) ≡ 1)
-    × (is_below (pos 3) (pos 3) ≡ 0) × (is_at_most (pos 3) (pos 3) ≡ 1)
-    × (is_at_most (pos 3) (negsuc 6) ≡ 0)
+order : (is_at_most 3 3 ≡ 1) × (is_at_most 4 3 ≡ 0) × (is_less_signed (negsuc 6) (pos 3) ≡ 1)
+    × (is_less_signed (pos 3) (pos 3) ≡ 0) × (is_at_most_signed (pos 3) (pos 3) ≡ 1)
+    × (is_at_most_signed (pos 3) (negsuc 6) ≡ 0)
 order = (refl, refl, refl, refl, refl, refl)
 
 -- ---- twelve cells by five

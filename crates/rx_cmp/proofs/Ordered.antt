@@ -10,7 +10,7 @@ use Rattle.rx_plan.specs.Values.{number}
 use Rattle.rx_plan.proofs.Numbers.{number_same, number_below, pow_pow}
 use Rattle.rx_carry.specs.declared.operation.Operation.TheVariants.{Difference}
 use Rattle.rx_carry.specs.Carries.{flipped, is_less, joint, state_of}
-use Rattle.rx_cmp.specs.Order.{is_most, is_below, is_at_most, turned, signed_state, turned_top}
+use Rattle.rx_cmp.specs.Order.{is_at_most, is_less_signed, is_at_most_signed, turned, signed_state, turned_top}
 
 -- ---- tests
 same_lt : (a b c d : ℕ) → (a < b → c < d) → (b ≤ a → d ≤ c) → nat_lt a b ≡ nat_lt c d
@@ -27,14 +27,14 @@ less_le x y = less_case (nat_lt x y) where
   less_case false = omega arith
 
 -- what is not less is at most
-pub not_less : (x y : ℕ) → flipped true (is_less y x) ≡ is_most x y
+pub not_less : (x y : ℕ) → flipped true (is_less y x) ≡ is_at_most x y
 not_less x y =
     elim (cases_lt y x) [
       | inl l ↦ ap (λ b. 1 - cond b 1 0) (lt-ltb y x l) ∙ sym (ap (λ b. cond b 1 0) (lt-leb x y l))
       | inr l ↦ ap (λ b. 1 - cond b 1 0) (le-ltb y x l) ∙ sym (ap (λ b. cond b 1 0) (le-leb x y l))
     ]
 
-pub not_below : (x y : ℤ) → flipped true (is_below y x) ≡ is_at_most x y
+pub not_below : (x y : ℤ) → flipped true (is_less_signed y x) ≡ is_at_most_signed x y
 not_below (pos a) (pos b) = not_less a b
 not_below (pos a) (negsuc b) = refl
 not_below (negsuc a) (pos b) = refl
@@ -62,33 +62,33 @@ turned_below w x = mod_below (x + 2 ^ (w - 1)) (2 ^ w) (pow_pos w)
 signed_low : (w x : ℕ) → x < 2 ^ w → 2 ^ (w - 1) ≤ x → signed w x ≡ negsuc (2 ^ w - 1 - x)
 signed_low w x h l = signed_big w x l ∙ (let e : (pos x -ℤ pos (2 ^ w)) ≡ negsuc (2 ^ w - 1 - x) = omega (arith, ints) in e)
 
-pub signed_order : (w x y : ℕ) → 1 ≤ w → x < 2 ^ w → y < 2 ^ w → is_less (turned w x) (turned w y) ≡ is_below (signed w x) (signed w y)
+pub signed_order : (w x y : ℕ) → 1 ≤ w → x < 2 ^ w → y < 2 ^ w → is_less (turned w x) (turned w y) ≡ is_less_signed (signed w x) (signed w y)
 signed_order w x y o hx hy =
     let h : ℕ = 2 ^ (w - 1) in
-    elim (cases_lt x h) as (λ _. is_less (turned w x) (turned w y) ≡ is_below (signed w x) (signed w y)) [
+    elim (cases_lt x h) as (λ _. is_less (turned w x) (turned w y) ≡ is_less_signed (signed w x) (signed w y)) [
       | inl p ↦
           let tx : turned w x ≡ x + h = turned_small w x o p in
-          elim (cases_lt y h) as (λ _. is_less (turned w x) (turned w y) ≡ is_below (signed w x) (signed w y)) [
+          elim (cases_lt y h) as (λ _. is_less (turned w x) (turned w y) ≡ is_less_signed (signed w x) (signed w y)) [
             | inl q ↦
                 let ty : turned w y ≡ y + h = turned_small w y o q in
                 ap (λ b. cond b 1 0) (same_lt (turned w x) (turned w y) x y (λ l. omega arith) (λ l. omega arith))
-                ∙ ap (λ s. is_below s (pos y)) (sym (signed_small w x p)) ∙ ap (is_below (signed w x)) (sym (signed_small w y q))
+                ∙ ap (λ s. is_less_signed s (pos y)) (sym (signed_small w x p)) ∙ ap (is_less_signed (signed w x)) (sym (signed_small w y q))
             | inr q ↦
                 let ty : turned w y ≡ y - h = turned_big w y o q hy in
                 ap (λ b. cond b 1 0) (le-ltb (turned w x) (turned w y) (omega (arith, half_of w o)))
-                ∙ ap (λ s. is_below s (negsuc (2 ^ w - 1 - y))) (sym (signed_small w x p)) ∙ ap (is_below (signed w x)) (sym (signed_low w y hy q))
+                ∙ ap (λ s. is_less_signed s (negsuc (2 ^ w - 1 - y))) (sym (signed_small w x p)) ∙ ap (is_less_signed (signed w x)) (sym (signed_low w y hy q))
           ]
       | inr p ↦
           let tx : turned w x ≡ x - h = turned_big w x o p hx in
-          elim (cases_lt y h) as (λ _. is_less (turned w x) (turned w y) ≡ is_below (signed w x) (signed w y)) [
+          elim (cases_lt y h) as (λ _. is_less (turned w x) (turned w y) ≡ is_less_signed (signed w x) (signed w y)) [
             | inl q ↦
                 let ty : turned w y ≡ y + h = turned_small w y o q in
                 ap (λ b. cond b 1 0) (lt-ltb (turned w x) (turned w y) (omega (arith, half_of w o)))
-                ∙ ap (λ s. is_below s (pos y)) (sym (signed_low w x hx p)) ∙ ap (is_below (signed w x)) (sym (signed_small w y q))
+                ∙ ap (λ s. is_less_signed s (pos y)) (sym (signed_low w x hx p)) ∙ ap (is_less_signed (signed w x)) (sym (signed_small w y q))
             | inr q ↦
                 let ty : turned w y ≡ y - h = turned_big w y o q hy in
                 ap (λ b. cond b 1 0) (same_lt (turned w x) (turned w y) (2 ^ w - 1 - y) (2 ^ w - 1 - x) (λ l. omega arith) (λ l. omega arith))
-                ∙ ap (λ s. is_below s (negsuc (2 ^ w - 1 - y))) (sym (signed_low w x hx p)) ∙ ap (is_below (signed w x)) (sym (signed_low w y hy q))
+                ∙ ap (λ s. is_less_signed s (negsuc (2 ^ w - 1 - y))) (sym (signed_low w x hx p)) ∙ ap (is_less_signed (signed w x)) (sym (signed_low w y hy q))
           ]
     ]
 

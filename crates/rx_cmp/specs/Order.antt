@@ -4,16 +4,16 @@ use Rattle.rx_carry.specs.declared.operation.Operation.TheVariants.{Difference}
 use Rattle.rx_carry.specs.Carries.{joint, state_of}
 
 -- 1 where x is at most y
-abbrev pub is_most : ℕ → ℕ → ℕ
-is_most x y = if nat_le x y then 1 else 0
+abbrev pub is_at_most : ℕ → ℕ → ℕ
+is_at_most x y = if nat_le x y then 1 else 0
 
 -- 1 where x is below y
-abbrev pub is_below : ℤ → ℤ → ℕ
-is_below x y = if int_lt x y then 1 else 0
+abbrev pub is_less_signed : ℤ → ℤ → ℕ
+is_less_signed x y = if int_lt x y then 1 else 0
 
 -- 1 where x is at most y
-abbrev pub is_at_most : ℤ → ℤ → ℕ
-is_at_most x y = if int_le x y then 1 else 0
+abbrev pub is_at_most_signed : ℤ → ℤ → ℕ
+is_at_most_signed x y = if int_le x y then 1 else 0
 
 -- a number of so many bits, of which the top one is turned: the order of signed numbers is that of numbers that are turned so
 abbrev pub turned : ℕ → ℕ → ℕ

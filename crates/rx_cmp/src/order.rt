@@ -8,7 +8,7 @@ ghost use Rattle.rx_plan.specs.Planned.{EachOf, AreBlocks, HasRoom, Planned};
 ghost use Rattle.rx_plan.specs.Results.{GivesBit};
 ghost use Rattle.rx_costs.specs.Table.{compare_jobs, compare_depth};
 ghost use Rattle.rx_carry.specs.Carries.{flipped, is_less};
-ghost use Rattle.rx_cmp.specs.Order.{is_most, is_below, is_at_most, ranked, signed_state, turned};
+ghost use Rattle.rx_cmp.specs.Order.{is_at_most, is_less_signed, is_at_most_signed, ranked, signed_state, turned};
 
 use crate::any::flip;
 use rx_carry::{Operation, first_states, passed_out, top};
@@ -49,7 +49,7 @@ pub fn le(pen: &mut NetPen, a: &[u32], b: &[u32], out: &mut Vec<u32>) -> Result<
     ensures unchanged { OnErr result (out.new.items ≡ out.old.items) }
     ensures gives { OnOk result (GivesBit pen.old pen.new out.old.items out.new.items
         (compare_jobs (length a.now)) (compare_depth (length a.now)) (EachOf a.now b.now)
-        (λ inputs. is_most (number_held pen.old a.now inputs)
+        (λ inputs. is_at_most (number_held pen.old a.now inputs)
         (number_held pen.old b.now inputs))) }
 {
     let _space = pen.space();
@@ -91,7 +91,7 @@ pub fn ge(pen: &mut NetPen, a: &[u32], b: &[u32], out: &mut Vec<u32>) -> Result<
     ensures unchanged { OnErr result (out.new.items ≡ out.old.items) }
     ensures gives { OnOk result (GivesBit pen.old pen.new out.old.items out.new.items
         (compare_jobs (length a.now)) (compare_depth (length a.now)) (EachOf a.now b.now)
-        (λ inputs. is_most (number_held pen.old b.now inputs)
+        (λ inputs. is_at_most (number_held pen.old b.now inputs)
         (number_held pen.old a.now inputs))) }
 {
     let _space = pen.space();
@@ -112,7 +112,7 @@ pub fn slt(pen: &mut NetPen, a: &[u32], b: &[u32], out: &mut Vec<u32>) -> Result
     ensures unchanged { OnErr result (out.new.items ≡ out.old.items) }
     ensures gives { OnOk result (GivesBit pen.old pen.new out.old.items out.new.items
         (compare_jobs (length a.now)) (compare_depth (length a.now)) (EachOf a.now b.now)
-        (λ inputs. is_below
+        (λ inputs. is_less_signed
         (signed (pen.old.space * length a.now) (number_held pen.old a.now inputs))
         (signed (pen.old.space * length a.now) (number_held pen.old b.now inputs)))) }
 {
@@ -134,7 +134,7 @@ pub fn sle(pen: &mut NetPen, a: &[u32], b: &[u32], out: &mut Vec<u32>) -> Result
     ensures unchanged { OnErr result (out.new.items ≡ out.old.items) }
     ensures gives { OnOk result (GivesBit pen.old pen.new out.old.items out.new.items
         (compare_jobs (length a.now)) (compare_depth (length a.now)) (EachOf a.now b.now)
-        (λ inputs. is_at_most
+        (λ inputs. is_at_most_signed
         (signed (pen.old.space * length a.now) (number_held pen.old a.now inputs))
         (signed (pen.old.space * length a.now) (number_held pen.old b.now inputs)))) }
 {
@@ -156,7 +156,7 @@ pub fn sgt(pen: &mut NetPen, a: &[u32], b: &[u32], out: &mut Vec<u32>) -> Result
     ensures unchanged { OnErr result (out.new.items ≡ out.old.items) }
     ensures gives { OnOk result (GivesBit pen.old pen.new out.old.items out.new.items
         (compare_jobs (length a.now)) (compare_depth (length a.now)) (EachOf a.now b.now)
-        (λ inputs. is_below
+        (λ inputs. is_less_signed
         (signed (pen.old.space * length a.now) (number_held pen.old b.now inputs))
         (signed (pen.old.space * length a.now) (number_held pen.old a.now inputs)))) }
 {
@@ -178,7 +178,7 @@ pub fn sge(pen: &mut NetPen, a: &[u32], b: &[u32], out: &mut Vec<u32>) -> Result
     ensures unchanged { OnErr result (out.new.items ≡ out.old.items) }
     ensures gives { OnOk result (GivesBit pen.old pen.new out.old.items out.new.items
         (compare_jobs (length a.now)) (compare_depth (length a.now)) (EachOf a.now b.now)
-        (λ inputs. is_at_most
+        (λ inputs. is_at_most_signed
         (signed (pen.old.space * length a.now) (number_held pen.old b.now inputs))
         (signed (pen.old.space * length a.now) (number_held pen.old a.now inputs)))) }
 {

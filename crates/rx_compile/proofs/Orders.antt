@@ -18,7 +18,7 @@ use Rattle.rx_language.specs.declared.kind.NameKind.TheVariants.{Bit}
 use Rattle.rx_meaning.specs.Costs.{cost_by}
 use Rattle.rx_carry.specs.Carries.{is_less}
 use Rattle.rx_cmp.specs.Equality.{equal, differ}
-use Rattle.rx_cmp.specs.Order.{is_most, is_below, is_at_most}
+use Rattle.rx_cmp.specs.Order.{is_at_most, is_less_signed, is_at_most_signed}
 use Rattle.rx_compile.specs.Realized.{operand, RealizesTwo}
 use Rattle.rx_compile.specs.Arms.{is_signed, IsNumber}
 use Rattle.rx_compile.proofs.Realizing.{bit_realizes}
@@ -91,29 +91,29 @@ lt_line old new w kind before after a b e f n s g =
     (λ xs q. less_whole kind (number_held old a xs) (number_held old b xs) s) g
 
 pub slt_line : (old new : Net) (w : Word) (kind : NameKind) (before after a b : List ℕ) → w ≡ Lt → before ≡ [] → IsNumber old kind a → is_signed kind ≡ true
-    → GivesBit old new before after (compare_jobs (length a)) (compare_depth (length a)) (EachOf a b) (λ xs. is_below (signed (old.space * length a) (number_held old a xs)) (signed (old.space * length a) (number_held old b xs)))
+    → GivesBit old new before after (compare_jobs (length a)) (compare_depth (length a)) (EachOf a b) (λ xs. is_less_signed (signed (old.space * length a) (number_held old a xs)) (signed (old.space * length a) (number_held old b xs)))
     → RealizesTwo w old new Bit after kind a kind b
 unfolding cost_by given_by
 slt_line old new w kind before after a b e f n s g =
-    ordered old new w Lt kind before after a b (compare_jobs (length a)) (compare_depth (length a)) (λ xs. is_below (signed (old.space * length a) (number_held old a xs)) (signed (old.space * length a) (number_held old b xs))) e f
+    ordered old new w Lt kind before after a b (compare_jobs (length a)) (compare_depth (length a)) (λ xs. is_less_signed (signed (old.space * length a) (number_held old a xs)) (signed (old.space * length a) (number_held old b xs))) e f
     (ap (λ k. compare_jobs k) n.count) (ap (λ k. compare_depth k) n.count)
     (λ xs q. below_whole kind (old.space * length a) (number_held old a xs) (number_held old b xs) s n.bits) g
 
 pub le_line : (old new : Net) (w : Word) (kind : NameKind) (before after a b : List ℕ) → w ≡ Le → before ≡ [] → IsNumber old kind a → is_signed kind ≡ false
-    → GivesBit old new before after (compare_jobs (length a)) (compare_depth (length a)) (EachOf a b) (λ xs. is_most (number_held old a xs) (number_held old b xs))
+    → GivesBit old new before after (compare_jobs (length a)) (compare_depth (length a)) (EachOf a b) (λ xs. is_at_most (number_held old a xs) (number_held old b xs))
     → RealizesTwo w old new Bit after kind a kind b
 unfolding cost_by given_by
 le_line old new w kind before after a b e f n s g =
-    ordered old new w Le kind before after a b (compare_jobs (length a)) (compare_depth (length a)) (λ xs. is_most (number_held old a xs) (number_held old b xs)) e f
+    ordered old new w Le kind before after a b (compare_jobs (length a)) (compare_depth (length a)) (λ xs. is_at_most (number_held old a xs) (number_held old b xs)) e f
     (ap (λ k. compare_jobs k) n.count) (ap (λ k. compare_depth k) n.count)
     (λ xs q. most_whole kind (number_held old a xs) (number_held old b xs) s) g
 
 pub sle_line : (old new : Net) (w : Word) (kind : NameKind) (before after a b : List ℕ) → w ≡ Le → before ≡ [] → IsNumber old kind a → is_signed kind ≡ true
-    → GivesBit old new before after (compare_jobs (length a)) (compare_depth (length a)) (EachOf a b) (λ xs. is_at_most (signed (old.space * length a) (number_held old a xs)) (signed (old.space * length a) (number_held old b xs)))
+    → GivesBit old new before after (compare_jobs (length a)) (compare_depth (length a)) (EachOf a b) (λ xs. is_at_most_signed (signed (old.space * length a) (number_held old a xs)) (signed (old.space * length a) (number_held old b xs)))
     → RealizesTwo w old new Bit after kind a kind b
 unfolding cost_by given_by
 sle_line old new w kind before after a b e f n s g =
-    ordered old new w Le kind before after a b (compare_jobs (length a)) (compare_depth (length a)) (λ xs. is_at_most (signed (old.space * length a) (number_held old a xs)) (signed (old.space * length a) (number_held old b xs))) e f
+    ordered old new w Le kind before after a b (compare_jobs (length a)) (compare_depth (length a)) (λ xs. is_at_most_signed (signed (old.space * length a) (number_held old a xs)) (signed (old.space * length a) (number_held old b xs))) e f
     (ap (λ k. compare_jobs k) n.count) (ap (λ k. compare_depth k) n.count)
     (λ xs q. at_most_whole kind (old.space * length a) (number_held old a xs) (number_held old b xs) s n.bits) g
 
@@ -127,28 +127,28 @@ gt_line old new w kind before after a b e f n s g =
     (λ xs q. less_whole kind (number_held old b xs) (number_held old a xs) s) g
 
 pub sgt_line : (old new : Net) (w : Word) (kind : NameKind) (before after a b : List ℕ) → w ≡ Gt → before ≡ [] → IsNumber old kind a → is_signed kind ≡ true
-    → GivesBit old new before after (compare_jobs (length a)) (compare_depth (length a)) (EachOf a b) (λ xs. is_below (signed (old.space * length a) (number_held old b xs)) (signed (old.space * length a) (number_held old a xs)))
+    → GivesBit old new before after (compare_jobs (length a)) (compare_depth (length a)) (EachOf a b) (λ xs. is_less_signed (signed (old.space * length a) (number_held old b xs)) (signed (old.space * length a) (number_held old a xs)))
     → RealizesTwo w old new Bit after kind a kind b
 unfolding cost_by given_by
 sgt_line old new w kind before after a b e f n s g =
-    ordered old new w Gt kind before after a b (compare_jobs (length a)) (compare_depth (length a)) (λ xs. is_below (signed (old.space * length a) (number_held old b xs)) (signed (old.space * length a) (number_held old a xs))) e f
+    ordered old new w Gt kind before after a b (compare_jobs (length a)) (compare_depth (length a)) (λ xs. is_less_signed (signed (old.space * length a) (number_held old b xs)) (signed (old.space * length a) (number_held old a xs))) e f
     (ap (λ k. compare_jobs k) n.count) (ap (λ k. compare_depth k) n.count)
     (λ xs q. below_whole kind (old.space * length a) (number_held old b xs) (number_held old a xs) s n.bits) g
 
 pub ge_line : (old new : Net) (w : Word) (kind : NameKind) (before after a b : List ℕ) → w ≡ Ge → before ≡ [] → IsNumber old kind a → is_signed kind ≡ false
-    → GivesBit old new before after (compare_jobs (length a)) (compare_depth (length a)) (EachOf a b) (λ xs. is_most (number_held old b xs) (number_held old a xs))
+    → GivesBit old new before after (compare_jobs (length a)) (compare_depth (length a)) (EachOf a b) (λ xs. is_at_most (number_held old b xs) (number_held old a xs))
     → RealizesTwo w old new Bit after kind a kind b
 unfolding cost_by given_by
 ge_line old new w kind before after a b e f n s g =
-    ordered old new w Ge kind before after a b (compare_jobs (length a)) (compare_depth (length a)) (λ xs. is_most (number_held old b xs) (number_held old a xs)) e f
+    ordered old new w Ge kind before after a b (compare_jobs (length a)) (compare_depth (length a)) (λ xs. is_at_most (number_held old b xs) (number_held old a xs)) e f
     (ap (λ k. compare_jobs k) n.count) (ap (λ k. compare_depth k) n.count)
     (λ xs q. most_whole kind (number_held old b xs) (number_held old a xs) s) g
 
 pub sge_line : (old new : Net) (w : Word) (kind : NameKind) (before after a b : List ℕ) → w ≡ Ge → before ≡ [] → IsNumber old kind a → is_signed kind ≡ true
-    → GivesBit old new before after (compare_jobs (length a)) (compare_depth (length a)) (EachOf a b) (λ xs. is_at_most (signed (old.space * length a) (number_held old b xs)) (signed (old.space * length a) (number_held old a xs)))
+    → GivesBit old new before after (compare_jobs (length a)) (compare_depth (length a)) (EachOf a b) (λ xs. is_at_most_signed (signed (old.space * length a) (number_held old b xs)) (signed (old.space * length a) (number_held old a xs)))
     → RealizesTwo w old new Bit after kind a kind b
 unfolding cost_by given_by
 sge_line old new w kind before after a b e f n s g =
-    ordered old new w Ge kind before after a b (compare_jobs (length a)) (compare_depth (length a)) (λ xs. is_at_most (signed (old.space * length a) (number_held old b xs)) (signed (old.space * length a) (number_held old a xs))) e f
+    ordered old new w Ge kind before after a b (compare_jobs (length a)) (compare_depth (length a)) (λ xs. is_at_most_signed (signed (old.space * length a) (number_held old b xs)) (signed (old.space * length a) (number_held old a xs))) e f
     (ap (λ k. compare_jobs k) n.count) (ap (λ k. compare_depth k) n.count)
     (λ xs q. at_most_whole kind (old.space * length a) (number_held old b xs) (number_held old a xs) s n.bits) g

@@ -16,7 +16,7 @@ use Rattle.rx_net.proofs.Faults.{all_from_test}
 use Rattle.rx_net.proofs.Fits.{nat_lt_yes}
 use Rattle.rx_net.proofs.Evaluates.{job_forward}
 use Rattle.rx_fold.specs.Jobs.{moved_term, moved, AreEqual, job_at, no_job}
-use Rattle.rx_fold.specs.Folded.{inputs_of, merged, rep, names, names_any, cells_given, is_live, is_kept}
+use Rattle.rx_fold.specs.Folded.{input_count, merged, rep, names, names_any, cells_given, is_live, is_kept}
 use Rattle.rx_fold.proofs.Stand.{Stands, stands, rep_input, same_rep, merged_at, length-merged}
 use Rattle.rx_fold.proofs.Needs.{or_left, or_right, and_both, or_which, not_both, Forward, forward_from, named_by, each_named, each_of, needed_given, needed_named, needed_why, needed_least, NamedLater}
 
@@ -67,10 +67,10 @@ outputs_within space count degree before (o ∷ os) h =
 
 module _ (net : Net) (l : Legal net) where
   abbrev pub inputs : ℕ
-  inputs = inputs_of net
+  inputs = input_count net
 
   abbrev pub count : ℕ
-  count = inputs_of net + length net.jobs
+  count = input_count net + length net.jobs
 
   pub given_within : AllByRecursion (λ (c : ℕ). c < count) (cells_given net.outputs)
   unfolding cell_count

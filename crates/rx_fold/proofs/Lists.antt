@@ -11,7 +11,7 @@ use Rattle.rx_net.specs.Legal.{Legal}
 use Rattle.rx_net.proofs.Each.{all_map}
 use Rattle.rx_net.proofs.Limits.{few_input_cells}
 use Rattle.rx_fold.specs.Jobs.{moved, moved_output, job_at, no_job}
-use Rattle.rx_fold.specs.Folded.{inputs_of, merged, rep, rep_among, merged_by, is_needed, cells_given, is_live, is_kept, numbered, kept_of, anew, folded_jobs}
+use Rattle.rx_fold.specs.Folded.{input_count, merged, rep, rep_among, merged_by, is_needed, cells_given, is_live, is_kept, numbered, kept_of, anew, folded_jobs}
 use Rattle.rx_fold.specs.Passes.{Tells, cell_in, is_marked, AreWithin, AreForward}
 use Rattle.rx_fold.proofs.Equal.{moved_agree}
 use Rattle.rx_fold.proofs.Facts.{count, forward, given_within, merged_is, merged_count, rep_le}
@@ -67,7 +67,7 @@ given_at P (x ∷ os) (suc i) o h l e = given_at P os i o (all_parts P x.cells (
 -- ---- the passes over a net
 
 module _ (net : Net) (l : Legal net) where
-  pub few : inputs_of net + length net.jobs < 4294967296
+  pub few : input_count net + length net.jobs < 4294967296
   few = let a = few_input_cells net l.limits in let b = l.limits.few_jobs in omega (arith, a, b)
 
   module _ (reps : List ℕ) (r : Tells 0 (rep net) (count net l) reps) where
@@ -81,7 +81,7 @@ module _ (net : Net) (l : Legal net) where
     moved_is = ext_get_or no_job (map (moved (cell_in reps)) net.jobs) (merged net) (let a = length-map net.jobs (moved (cell_in reps)) in let b = merged_count net l in omega arith)
         (λ i b. let w : i < length net.jobs = (let a = length-map net.jobs (moved (cell_in reps)) in omega arith) in
         get_or-map (moved (cell_in reps)) net.jobs i no_job no_job w
-        ∙ moved_agree (cell_in reps) (rep net) (job_at net.jobs i) (all_map (λ (t : Term). t.cell < inputs_of net + i) (λ (t : Term). cell_in reps t.cell ≡ rep net t.cell) (job_at net.jobs i).terms
+        ∙ moved_agree (cell_in reps) (rep net) (job_at net.jobs i) (all_map (λ (t : Term). t.cell < input_count net + i) (λ (t : Term). cell_in reps t.cell ≡ rep net t.cell) (job_at net.jobs i).terms
         (λ t f. r.each t.cell (omega arith)) (forward net l i w))
         ∙ sym (merged_is net l i w))
 
@@ -90,16 +90,16 @@ module _ (net : Net) (l : Legal net) where
         (all_map (λ (c : ℕ). c < count net l) (λ (c : ℕ). cell_in reps c ≡ rep net c) (cells_given net.outputs) (λ c b. r.each c b) (given_within net l))
 
     module _ (live : List Bool)
-        (v : Tells false (is_needed (map (cell_in reps) (cells_given net.outputs)) (inputs_of net) (map (moved (cell_in reps)) net.jobs)) (length reps) live) where
+        (v : Tells false (is_needed (map (cell_in reps) (cells_given net.outputs)) (input_count net) (map (moved (cell_in reps)) net.jobs)) (length reps) live) where
       pub live_is : (c : ℕ) → c < count net l → is_marked live c ≡ is_live net c
       unfolding is_live
-      live_is c b = v.each c (let n = r.count in omega arith) ∙ (λ i. is_needed (given_is i) (inputs_of net) (moved_is i) c)
+      live_is c b = v.each c (let n = r.count in omega arith) ∙ (λ i. is_needed (given_is i) (input_count net) (moved_is i) c)
 
       module _ (kept : List Bool)
-          (k : Tells false (λ c. nat_lt c (inputs_of net) || ((cell_in reps c == c) && is_marked live c)) (length reps) kept) where
+          (k : Tells false (λ c. nat_lt c (input_count net) || ((cell_in reps c == c) && is_marked live c)) (length reps) kept) where
         pub kept_is : (c : ℕ) → c < count net l → is_marked kept c ≡ is_kept net c
         unfolding is_kept
-        kept_is c b = k.each c (let n = r.count in omega arith) ∙ (λ i. nat_lt c (inputs_of net) || ((r.each c b i == c) && live_is c b i))
+        kept_is c b = k.each c (let n = r.count in omega arith) ∙ (λ i. nat_lt c (input_count net) || ((r.each c b i == c) && live_is c b i))
 
         module _ (news : List ℕ) (w : Tells 0 (λ c. numbered (is_marked kept) (cell_in reps c)) (length reps) news) where
           pub anew_is : (c : ℕ) → c < count net l → cell_in news c ≡ anew net c
@@ -107,10 +107,10 @@ module _ (net : Net) (l : Legal net) where
           anew_is c b = w.each c (let n = r.count in omega arith) ∙ ap (numbered (is_marked kept)) (r.each c b)
               ∙ numbered_agree (is_marked kept) (is_kept net) (rep net c) (λ x y. kept_is x (let h = rep_le net l c b in omega arith))
 
-          pub jobs_are : map (moved (cell_in news)) (kept_of (is_marked kept) (inputs_of net) net.jobs) ≡ folded_jobs net
+          pub jobs_are : map (moved (cell_in news)) (kept_of (is_marked kept) (input_count net) net.jobs) ≡ folded_jobs net
           unfolding folded_jobs
-          jobs_are = kept_agree (is_marked kept) (is_kept net) (cell_in news) (anew net) (inputs_of net) net.jobs (λ i b. kept_is (inputs_of net + i) (omega arith))
-              (λ i b. moved_agree (cell_in news) (anew net) (job_at net.jobs i) (all_map (λ (t : Term). t.cell < inputs_of net + i) (λ (t : Term). cell_in news t.cell ≡ anew net t.cell) (job_at net.jobs i).terms
+          jobs_are = kept_agree (is_marked kept) (is_kept net) (cell_in news) (anew net) (input_count net) net.jobs (λ i b. kept_is (input_count net + i) (omega arith))
+              (λ i b. moved_agree (cell_in news) (anew net) (job_at net.jobs i) (all_map (λ (t : Term). t.cell < input_count net + i) (λ (t : Term). cell_in news t.cell ≡ anew net t.cell) (job_at net.jobs i).terms
               (λ t f. anew_is t.cell (omega arith)) (forward net l i b)))
 
           pub outputs_are : map (moved_output (cell_in news)) net.outputs ≡ map (moved_output (anew net)) net.outputs
@@ -124,7 +124,7 @@ module _ (net : Net) (l : Legal net) where
 
 -- ---- what the passes are given and give, in the words of the net
 
-module _ (net : Net) (l : Legal net) (n : ℕ) (jobs : List Job) (outputs : List NetOutput) (e : n ≡ inputs_of net) (f : jobs ≡ net.jobs) (g : outputs ≡ net.outputs) where
+module _ (net : Net) (l : Legal net) (n : ℕ) (jobs : List Job) (outputs : List NetOutput) (e : n ≡ input_count net) (f : jobs ≡ net.jobs) (g : outputs ≡ net.outputs) where
   pub few_in : n + length jobs < 4294967296
   few_in = let a = few net l in let b : length jobs ≡ length net.jobs = ap (λ (js : List Job). length js) f in omega (arith, a, b, e)
 
@@ -134,17 +134,17 @@ module _ (net : Net) (l : Legal net) (n : ℕ) (jobs : List Job) (outputs : List
   pub reps_in : (reps : List ℕ) → Tells 0 (rep_among n (merged_by n jobs)) (n + length jobs) reps → Tells 0 (rep net) (count net l) reps
   unfolding rep
   reps_in reps t =
-      let u : Tells 0 (rep_among (inputs_of net) (merged net)) (inputs_of net + length net.jobs) reps =
+      let u : Tells 0 (rep_among (input_count net) (merged net)) (input_count net + length net.jobs) reps =
       subst (λ (z : ℕ × List Job). Tells 0 (rep_among z.0 (merged_by z.0 z.1)) (z.0 + length z.1) reps) (λ i. (e i, f i)) t in
       record { count = u.count; each = u.each }
 
   pub live_in : (reps xs : List ℕ) (live : List Bool) → xs ≡ reps → Tells false (is_needed (map (cell_in xs) (cells_given outputs)) n (map (moved (cell_in xs)) jobs)) (length xs) live
-      → Tells false (is_needed (map (cell_in reps) (cells_given net.outputs)) (inputs_of net) (map (moved (cell_in reps)) net.jobs)) (length reps) live
+      → Tells false (is_needed (map (cell_in reps) (cells_given net.outputs)) (input_count net) (map (moved (cell_in reps)) net.jobs)) (length reps) live
   live_in reps xs live h t = subst (λ (z : ℕ × List Job × List NetOutput × List ℕ). Tells false (is_needed (map (cell_in z.3) (cells_given z.2)) z.0 (map (moved (cell_in z.3)) z.1)) (length z.3) live)
       (λ i. (e i, f i, g i, h i)) t
 
   pub kept_in : (reps xs : List ℕ) (live vs kept : List Bool) → xs ≡ reps → vs ≡ live → Tells false (λ c. nat_lt c n || ((cell_in xs c == c) && is_marked vs c)) (length xs) kept
-      → Tells false (λ c. nat_lt c (inputs_of net) || ((cell_in reps c == c) && is_marked live c)) (length reps) kept
+      → Tells false (λ c. nat_lt c (input_count net) || ((cell_in reps c == c) && is_marked live c)) (length reps) kept
   kept_in reps xs live vs kept h k t = subst (λ (z : ℕ × List ℕ × List Bool). Tells false (λ c. nat_lt c z.0 || ((cell_in z.1 c == c) && is_marked z.2 c)) (length z.1) kept) (λ i. (e i, h i, k i)) t
 
   pub cells_in : (reps xs : List ℕ) (kept ks : List Bool) (news : List ℕ) → xs ≡ reps → ks ≡ kept → Tells 0 (λ c. numbered (is_marked ks) (cell_in xs c)) (length xs) news
@@ -152,7 +152,7 @@ module _ (net : Net) (l : Legal net) (n : ℕ) (jobs : List Job) (outputs : List
   cells_in reps xs kept ks news h k t = subst (λ (z : List ℕ × List Bool). Tells 0 (λ c. numbered (is_marked z.1) (cell_in z.0 c)) (length z.0) news) (λ i. (h i, k i)) t
 
   pub jobs_in : (kept ks : List Bool) (news ns : List ℕ) (js : List Job) → ks ≡ kept → ns ≡ news → js ≡ map (moved (cell_in ns)) (kept_of (is_marked ks) n jobs)
-      → js ≡ map (moved (cell_in news)) (kept_of (is_marked kept) (inputs_of net) net.jobs)
+      → js ≡ map (moved (cell_in news)) (kept_of (is_marked kept) (input_count net) net.jobs)
   jobs_in kept ks news ns js h k t = t ∙ (λ i. map (moved (cell_in (k i))) (kept_of (is_marked (h i)) (e i) (f i)))
 
   pub outputs_in : (news ns : List ℕ) (os : List NetOutput) → ns ≡ news → os ≡ map (moved_output (cell_in ns)) outputs → os ≡ map (moved_output (cell_in news)) net.outputs

@@ -21,7 +21,7 @@ use Rattle.rx_net.proofs.Fits.{nat_lt_is}
 use Rattle.rx_net.proofs.Inputs.{length-given}
 use Rattle.rx_net.proofs.Laid.{length-laid, laid_before}
 use Rattle.rx_fold.specs.Jobs.{moved_term, moved, moved_output, AreEqual, job_at, no_job}
-use Rattle.rx_fold.specs.Folded.{inputs_of, merged, rep, names, names_any, cells_given, is_needed, is_live, is_kept, numbered, kept_of, anew, folded_jobs, folded}
+use Rattle.rx_fold.specs.Folded.{input_count, merged, rep, names, names_any, cells_given, is_needed, is_live, is_kept, numbered, kept_of, anew, folded_jobs, folded}
 use Rattle.rx_fold.specs.Laws.{IsFolded, ReadsWeights, words_given, Folds}
 use Rattle.rx_fold.proofs.Needs.{and_both, named_by, forward_at}
 use Rattle.rx_fold.proofs.Numbering.{length-kept, numbered_lt, numbered_once, numbered_most}
@@ -31,48 +31,48 @@ use Rattle.rx_fold.proofs.Tags.{turn_from, equal_jobs, degree_anew, noise_anew, 
 
 -- ---- what a step lays, in a legal net and in its folded net
 
-module _ (net : Net) (l : Legal net) {A : Type 0} (d : A) (step : Job → List A → A) (reads : Reads d step) (ins : List A) (n : length ins ≡ inputs_of net) where
+module _ (net : Net) (l : Legal net) {A : Type 0} (d : A) (step : Job → List A → A) (reads : Reads d step) (ins : List A) (n : length ins ≡ input_count net) where
   abbrev old_cells : List A
   old_cells = laid step ins net.jobs
 
   abbrev new_cells : List A
   new_cells = laid step ins (folded_jobs net)
 
-  old_obey : Obeys d step (inputs_of net) net.jobs old_cells
-  old_obey = laid_obeys d step reads (inputs_of net) ins net.jobs n (forward net l)
+  old_obey : Obeys d step (input_count net) net.jobs old_cells
+  old_obey = laid_obeys d step reads (input_count net) ins net.jobs n (forward net l)
 
   old_alike : Alike net l d step reads old_cells old_obey
   unfolding Alike
   old_alike a b v w e = ap (λ (j : Job). step j old_cells) (equal_jobs net l a b v w e)
 
-  new_forward : (p : ℕ) → p < length (folded_jobs net) → AllByRecursion (λ (t : Term). t.cell < inputs_of net + p) (job_at (folded_jobs net) p).terms
+  new_forward : (p : ℕ) → p < length (folded_jobs net) → AllByRecursion (λ (t : Term). t.cell < input_count net + p) (job_at (folded_jobs net) p).terms
   new_forward p b = let q = job_of net l p b in
-      subst (λ (j : Job). AllByRecursion (λ (t : Term). t.cell < inputs_of net + p) j.terms) (sym q.1.is)
-      (all_moved (λ (c : ℕ). c < inputs_of net + p) (anew net) (job_at net.jobs q.0).terms (anew_below net l q.0 p q.1))
+      subst (λ (j : Job). AllByRecursion (λ (t : Term). t.cell < input_count net + p) j.terms) (sym q.1.is)
+      (all_moved (λ (c : ℕ). c < input_count net + p) (anew net) (job_at net.jobs q.0).terms (anew_below net l q.0 p q.1))
 
-  new_obey : Obeys d step (inputs_of net) (folded_jobs net) new_cells
-  new_obey = laid_obeys d step reads (inputs_of net) ins (folded_jobs net) n new_forward
+  new_obey : Obeys d step (input_count net) (folded_jobs net) new_cells
+  new_obey = laid_obeys d step reads (input_count net) ins (folded_jobs net) n new_forward
 
-  firsts : (c : ℕ) → c < inputs_of net → get_or new_cells c d ≡ get_or old_cells c d
+  firsts : (c : ℕ) → c < input_count net → get_or new_cells c d ≡ get_or old_cells c d
   firsts c b = laid_before step ins (folded_jobs net) d c (omega (arith, b, n)) ∙ sym (laid_before step ins net.jobs d c (omega (arith, b, n)))
 
-  pub kept_cell : (c : ℕ) → c < inputs_of net + length net.jobs → is_kept net c ≡ true → get_or new_cells (numbered (is_kept net) c) d ≡ get_or old_cells c d
+  pub kept_cell : (c : ℕ) → c < input_count net + length net.jobs → is_kept net c ≡ true → get_or new_cells (numbered (is_kept net) c) d ≡ get_or old_cells c d
   kept_cell c b h = kept_below net l d step reads old_cells old_obey (rep_same net l d step reads old_cells old_obey old_alike) new_cells new_obey firsts (suc c) c (omega arith) b h
 
-  pub anew_cell : (c : ℕ) → c < inputs_of net + length net.jobs → is_kept net (rep net c) ≡ true → get_or new_cells (anew net c) d ≡ get_or old_cells c d
+  pub anew_cell : (c : ℕ) → c < input_count net + length net.jobs → is_kept net (rep net c) ≡ true → get_or new_cells (anew net c) d ≡ get_or old_cells c d
   anew_cell c b h = anew_same net l d step reads old_cells old_obey (rep_same net l d step reads old_cells old_obey old_alike) new_cells new_obey firsts c b h
 
 -- ---- outputs whose cells are replaced
 
 -- an output's cell: it is a cell, and what stands for it is kept
 pub record Given (net : Net) (c : ℕ) : Type 0 where
-  pub within : c < inputs_of net + length net.jobs
+  pub within : c < input_count net + length net.jobs
   pub kept : is_kept net (rep net c) ≡ true
 
 pub all_given : (net : Net) → Legal net → AllByRecursion (Given net) (cells_given net.outputs)
 all_given net l = both_of (cells_given net.outputs) (given_within net l) (kept_given net l)
   where
-    both_of : (cs : List ℕ) → AllByRecursion (λ (c : ℕ). c < inputs_of net + length net.jobs) cs → AllByRecursion (λ (c : ℕ). is_kept net (rep net c) ≡ true) cs → AllByRecursion (Given net) cs
+    both_of : (cs : List ℕ) → AllByRecursion (λ (c : ℕ). c < input_count net + length net.jobs) cs → AllByRecursion (λ (c : ℕ). is_kept net (rep net c) ≡ true) cs → AllByRecursion (Given net) cs
     both_of [] g h = tt
     both_of (c ∷ cs) g h = (record { within = g.0; kept = h.0 }, both_of cs g.1 h.1)
 
@@ -105,27 +105,27 @@ kept_fields field f same [] = refl
 kept_fields field f same (o ∷ os) = ap (λ x. x ∷ map field (map (moved_output f) os)) (same o) ∙ ap (λ xs. field o ∷ xs) (kept_fields field f same os)
 
 module _ (net : Net) (l : Legal net) where
-  pub new_count : inputs_of net + length (folded_jobs net) ≡ numbered (is_kept net) (inputs_of net + length net.jobs)
+  pub new_count : input_count net + length (folded_jobs net) ≡ numbered (is_kept net) (input_count net + length net.jobs)
   unfolding folded_jobs
   new_count =
-      let e = length-map (kept_of (is_kept net) (inputs_of net) net.jobs) (moved (anew net)) in
-      let k = length-kept (is_kept net) (inputs_of net) net.jobs in
-      let n = number_inputs net l (inputs_of net) (omega arith) in omega arith
+      let e = length-map (kept_of (is_kept net) (input_count net) net.jobs) (moved (anew net)) in
+      let k = length-kept (is_kept net) (input_count net) net.jobs in
+      let n = number_inputs net l (input_count net) (omega arith) in omega arith
 
   pub fewer : length (folded_jobs net) ≤ length net.jobs
-  fewer = let e = new_count in let m = numbered_most (is_kept net) (inputs_of net + length net.jobs) in omega arith
+  fewer = let e = new_count in let m = numbered_most (is_kept net) (input_count net + length net.jobs) in omega arith
 
-  pub anew_within : (c : ℕ) → Given net c → anew net c < inputs_of net + length (folded_jobs net)
+  pub anew_within : (c : ℕ) → Given net c → anew net c < input_count net + length (folded_jobs net)
   unfolding anew
   anew_within c g = let w = g.within in let r = rep_le net l c w in let e = new_count in
-      let h = numbered_lt (is_kept net) (rep net c) (inputs_of net + length net.jobs) (omega arith) g.kept in omega arith
+      let h = numbered_lt (is_kept net) (rep net c) (input_count net + length net.jobs) (omega arith) g.kept in omega arith
 
   -- ---- outputs stay lawful
   abbrev old_count : ℕ
-  old_count = inputs_of net + length net.jobs
+  old_count = input_count net + length net.jobs
 
   abbrev next_count : ℕ
-  next_count = inputs_of net + length (folded_jobs net)
+  next_count = input_count net + length (folded_jobs net)
 
   abbrev old_degree_of : ℕ → ℕ
   old_degree_of c = get_or (degrees_after net.space net.inputs net.jobs) c 0
@@ -226,9 +226,9 @@ module _ (net : Net) (l : Legal net) where
         table = ap (λ (z : Job). z.table) (merged_is net l i x.job) ∙ sym (ap (λ (z : Job). z.table) x.is) ∙ e.table ∙ ap (λ (z : Job). z.table) y.is ∙ sym (ap (λ (z : Job). z.table) (merged_is net l k y.job));
       } in
       let v = x.job in let w = y.job in
-      let r : inputs_of net + i ≡ inputs_of net + k =
-      sym (kept_rep net l (inputs_of net + i) (omega arith) x.kept) ∙ rep_equal net l i k same ∙ kept_rep net l (inputs_of net + k) (omega arith) y.kept in
-      let n : inputs_of net + p ≡ inputs_of net + q = sym x.number ∙ ap (numbered (is_kept net)) r ∙ y.number in
+      let r : input_count net + i ≡ input_count net + k =
+      sym (kept_rep net l (input_count net + i) (omega arith) x.kept) ∙ rep_equal net l i k same ∙ kept_rep net l (input_count net + k) (omega arith) y.kept in
+      let n : input_count net + p ≡ input_count net + q = sym x.number ∙ ap (numbered (is_kept net)) r ∙ y.number in
       absurd (omega arith)
 
   new_apart : (p q : ℕ) → p < q → q < length (folded_jobs net) → AreEqual (job_at (folded_jobs net) p) (job_at (folded_jobs net) q) → ⊥
@@ -244,39 +244,39 @@ module _ (net : Net) (l : Legal net) where
   terms_twice [] = refl
   terms_twice (t ∷ ts) = ap (λ (xs : List Term). moved_term (anew net) t ∷ xs) (terms_twice ts)
 
-  live_is : (k : ℕ) → is_needed (map (rep net) (cells_given net.outputs)) (inputs_of net) (merged net) (inputs_of net + k) ≡ true → is_live net (inputs_of net + k) ≡ true
+  live_is : (k : ℕ) → is_needed (map (rep net) (cells_given net.outputs)) (input_count net) (merged net) (input_count net + k) ≡ true → is_live net (input_count net + k) ≡ true
   unfolding is_live
   live_is k h = h
 
-  used_at : (i p : ℕ) → Placed net i p → IsTrue (names_any (cells_given (map (moved_output (anew net)) net.outputs)) (inputs_of net + p))
-      ⊎ ((q : ℕ) × (p < q) × (q < length (folded_jobs net)) × IsTrue (names (job_at (folded_jobs net) q) (inputs_of net + p)))
+  used_at : (i p : ℕ) → Placed net i p → IsTrue (names_any (cells_given (map (moved_output (anew net)) net.outputs)) (input_count net + p))
+      ⊎ ((q : ℕ) × (p < q) × (q < length (folded_jobs net)) × IsTrue (names (job_at (folded_jobs net) q) (input_count net + p)))
   used_at i p x =
       let number = numbered (is_kept net) in
-      elim (live_why net l (inputs_of net + i) (live_kept net l i x.kept)) [
-        | inl given ↦ inl (subst (λ (cs : List ℕ). names_any cs (inputs_of net + p) ≡ true) (sym (given_moved (anew net) net.outputs))
+      elim (live_why net l (input_count net + i) (live_kept net l i x.kept)) [
+        | inl given ↦ inl (subst (λ (cs : List ℕ). names_any cs (input_count net + p) ≡ true) (sym (given_moved (anew net) net.outputs))
             (subst (λ (c : ℕ). names_any (map (anew net) (cells_given net.outputs)) c ≡ true) x.number
-            (subst (λ (cs : List ℕ). names_any cs (number (inputs_of net + i)) ≡ true) (map_twice (cells_given net.outputs))
-            (any_moved number (map (rep net) (cells_given net.outputs)) (inputs_of net + i) given))))
+            (subst (λ (cs : List ℕ). names_any cs (number (input_count net + i)) ≡ true) (map_twice (cells_given net.outputs))
+            (any_moved number (map (rep net) (cells_given net.outputs)) (input_count net + i) given))))
         | inr why ↦
             let k : ℕ = why.job in
             let w : k < length net.jobs = (let a = why.within in let e = merged_count net l in omega arith) in
-            let kept : is_kept net (inputs_of net + k) ≡ true = kept_live net l (inputs_of net + k) (live_is k why.needed) in
+            let kept : is_kept net (input_count net + k) ≡ true = kept_live net l (input_count net + k) (live_is k why.needed) in
             let y = place_of net l k w kept in
-            let later : inputs_of net + i < inputs_of net + k =
-            named_by (λ (c : ℕ). c < inputs_of net + k) (job_at (merged net) k).terms (inputs_of net + i) why.names (forward_at (inputs_of net) (merged net) (merged_forward net l) k why.within) in
-            let below = numbered_lt (is_kept net) (inputs_of net + i) (inputs_of net + k) later x.kept in
+            let later : input_count net + i < input_count net + k =
+            named_by (λ (c : ℕ). c < input_count net + k) (job_at (merged net) k).terms (input_count net + i) why.names (forward_at (input_count net) (merged net) (merged_forward net l) k why.within) in
+            let below = numbered_lt (is_kept net) (input_count net + i) (input_count net + k) later x.kept in
             let np = x.number in let nq = y.1.number in
             let ts : (job_at (merged net) k).terms ≡ map (moved_term (rep net)) (job_at net.jobs k).terms = ap (λ (j : Job). j.terms) (merged_is net l k w) in
-            let named : list_any (λ (t : Term). t.cell == (inputs_of net + i)) (map (moved_term (rep net)) (job_at net.jobs k).terms) ≡ true =
-            subst (λ (ts : List Term). list_any (λ (t : Term). t.cell == (inputs_of net + i)) ts ≡ true) ts why.names in
+            let named : list_any (λ (t : Term). t.cell == (input_count net + i)) (map (moved_term (rep net)) (job_at net.jobs k).terms) ≡ true =
+            subst (λ (ts : List Term). list_any (λ (t : Term). t.cell == (input_count net + i)) ts ≡ true) ts why.names in
             inr (
               y.0,
               omega arith,
               y.1.place,
-              subst (λ (j : Job). names j (inputs_of net + p) ≡ true) (sym y.1.is)
+              subst (λ (j : Job). names j (input_count net + p) ≡ true) (sym y.1.is)
                   (subst (λ (c : ℕ). list_any (λ (t : Term). t.cell == c) (map (moved_term (anew net)) (job_at net.jobs k).terms) ≡ true) x.number
-                  (subst (λ (ts : List Term). list_any (λ (t : Term). t.cell == number (inputs_of net + i)) ts ≡ true) (terms_twice (job_at net.jobs k).terms)
-                  (named_moved number (map (moved_term (rep net)) (job_at net.jobs k).terms) (inputs_of net + i) named))),
+                  (subst (λ (ts : List Term). list_any (λ (t : Term). t.cell == number (input_count net + i)) ts ≡ true) (terms_twice (job_at net.jobs k).terms)
+                  (named_moved number (map (moved_term (rep net)) (job_at net.jobs k).terms) (input_count net + i) named))),
             )
       ]
 
@@ -298,24 +298,24 @@ module _ (net : Net) (l : Legal net) where
   abbrev no_depths : List ℕ
   no_depths = given net.space (λ (x : NetInput). 0) net.inputs
 
-  depth_at : (c : ℕ) → c < inputs_of net + length (folded_jobs net) → get_or (laid one_deeper no_depths (folded_jobs net)) c 0 ≤ greatest_of (laid one_deeper no_depths net.jobs)
+  depth_at : (c : ℕ) → c < input_count net + length (folded_jobs net) → get_or (laid one_deeper no_depths (folded_jobs net)) c 0 ≤ greatest_of (laid one_deeper no_depths net.jobs)
   depth_at c b =
       let n = length-given net.space (λ (x : NetInput). 0) net.inputs in
       let old : List ℕ = laid one_deeper no_depths net.jobs in
-      let size : length old ≡ inputs_of net + length net.jobs = (let e = length-laid one_deeper no_depths net.jobs in omega arith) in
-      elim (cases_lt c (inputs_of net)) [
+      let size : length old ≡ input_count net + length net.jobs = (let e = length-laid one_deeper no_depths net.jobs in omega arith) in
+      elim (cases_lt c (input_count net)) [
         | inl lt ↦
             let e : get_or (laid one_deeper no_depths (folded_jobs net)) c 0 ≡ get_or old c 0 =
             laid_before one_deeper no_depths (folded_jobs net) 0 c (omega arith) ∙ sym (laid_before one_deeper no_depths net.jobs 0 c (omega arith)) in
             let g = greatest_at old c (omega arith) in omega arith
         | inr le ↦
-            let q = job_of net l (c - inputs_of net) (omega arith) in
+            let q = job_of net l (c - input_count net) (omega arith) in
             let x = q.1 in
             let v = x.job in
-            let at : c ≡ numbered (is_kept net) (inputs_of net + q.0) = (let m = x.number in omega arith) in
-            let e : get_or (laid one_deeper no_depths (folded_jobs net)) c 0 ≡ get_or old (inputs_of net + q.0) 0 =
-            ap (λ (c : ℕ). get_or (laid one_deeper no_depths (folded_jobs net)) c 0) at ∙ kept_cell net l 0 one_deeper depth_reads no_depths n (inputs_of net + q.0) (omega arith) x.kept in
-            let g = greatest_at old (inputs_of net + q.0) (omega arith) in omega arith
+            let at : c ≡ numbered (is_kept net) (input_count net + q.0) = (let m = x.number in omega arith) in
+            let e : get_or (laid one_deeper no_depths (folded_jobs net)) c 0 ≡ get_or old (input_count net + q.0) 0 =
+            ap (λ (c : ℕ). get_or (laid one_deeper no_depths (folded_jobs net)) c 0) at ∙ kept_cell net l 0 one_deeper depth_reads no_depths n (input_count net + q.0) (omega arith) x.kept in
+            let g = greatest_at old (input_count net + q.0) (omega arith) in omega arith
       ]
 
   new_depth : net_depth (folded net) ≤ net_depth net
@@ -352,7 +352,7 @@ module _ (net : Net) (l : Legal net) where
       ap (λ (xs : List (List ℕ)). xs ∷ words_given (map (moved_output (anew net)) os) ws) first
       ∙ ap (λ (ns : List (List (List ℕ))). map (λ (c : ℕ). get_or vs c []) o.cells ∷ ns) (words_same ws vs os (all_back (λ (c : ℕ). get_or ws (anew net c) [] ≡ get_or vs c []) o.cells (cells_given os) h))
 
-  new_words : (words_of : List ℕ → Job → List ℕ → List ℕ) (basis : List ℕ) (inputs : List (List ℕ)) → ReadsWeights words_of → length inputs ≡ inputs_of net
+  new_words : (words_of : List ℕ → Job → List ℕ → List ℕ) (basis : List ℕ) (inputs : List (List ℕ)) → ReadsWeights words_of → length inputs ≡ input_count net
       → words_given (folded net).outputs (cells_of words_of basis (folded net) inputs) ≡ words_given net.outputs (cells_of words_of basis net inputs)
   unfolding folded cells_of
   new_words words_of basis inputs r n = words_same (laid (words_step words_of basis) inputs (folded_jobs net)) (laid (words_step words_of basis) inputs net.jobs) net.outputs

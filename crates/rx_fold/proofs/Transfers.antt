@@ -12,7 +12,7 @@ use Rattle.rx_net.specs.Legal.{Legal, reached}
 use Rattle.rx_net.proofs.Each.{all_map}
 use Rattle.rx_net.proofs.Laid.{length-laid}
 use Rattle.rx_fold.specs.Jobs.{moved_term, moved, AreEqual, job_at, no_job}
-use Rattle.rx_fold.specs.Folded.{inputs_of, merged, rep, is_kept, numbered, kept_of, anew, folded_jobs}
+use Rattle.rx_fold.specs.Folded.{input_count, merged, rep, is_kept, numbered, kept_of, anew, folded_jobs}
 use Rattle.rx_fold.specs.Laws.{ReadsWeights}
 use Rattle.rx_fold.proofs.Equal.{moved_id}
 use Rattle.rx_fold.proofs.Stand.{laid_cut, get_or_middle}
@@ -55,28 +55,28 @@ module _ {A : Type 0} (d : A) (step : Job → List A → A) where
 
 -- ---- a net whose cells are replaced by those that stand for them
 
-module _ (net : Net) (l : Legal net) {A : Type 0} (d : A) (step : Job → List A → A) (reads : Reads d step) (vs : List A) (obeys : Obeys d step (inputs_of net) net.jobs vs) where
-  job_is : (i : ℕ) → i < length net.jobs → ((c : ℕ) → c < inputs_of net + i → get_or vs (rep net c) d ≡ get_or vs c d) → get_or vs (inputs_of net + i) d ≡ step (job_at (merged net) i) vs
+module _ (net : Net) (l : Legal net) {A : Type 0} (d : A) (step : Job → List A → A) (reads : Reads d step) (vs : List A) (obeys : Obeys d step (input_count net) net.jobs vs) where
+  job_is : (i : ℕ) → i < length net.jobs → ((c : ℕ) → c < input_count net + i → get_or vs (rep net c) d ≡ get_or vs c d) → get_or vs (input_count net + i) d ≡ step (job_at (merged net) i) vs
   unfolding Reads Obeys
   job_is i b before = obeys i b ∙ sym (ap (λ (j : Job). step j vs) (merged_is net l i b) ∙ reads (rep net) (job_at net.jobs i) vs vs
-      (all_map (λ (t : Term). t.cell < inputs_of net + i) (λ (t : Term). get_or vs (rep net t.cell) d ≡ get_or vs t.cell d) (job_at net.jobs i).terms (λ t b. before t.cell b) (forward net l i b)))
+      (all_map (λ (t : Term). t.cell < input_count net + i) (λ (t : Term). get_or vs (rep net t.cell) d ≡ get_or vs t.cell d) (job_at net.jobs i).terms (λ t b. before t.cell b) (forward net l i b)))
 
   -- equal jobs give equal entries
   unfoldable pub Alike : Type 0
   Alike = (a b : ℕ) → a < length net.jobs → b < length net.jobs → AreEqual (job_at (merged net) a) (job_at (merged net) b) → step (job_at (merged net) a) vs ≡ step (job_at (merged net) b) vs
 
-  same_below : Alike → (k c : ℕ) → c < k → c < inputs_of net + length net.jobs → get_or vs (rep net c) d ≡ get_or vs c d
+  same_below : Alike → (k c : ℕ) → c < k → c < input_count net + length net.jobs → get_or vs (rep net c) d ≡ get_or vs c d
   unfolding Alike
   same_below alike zero c b w = absurd (omega arith)
-  same_below alike (suc k) c b w = elim (cases_lt c (inputs_of net)) [
+  same_below alike (suc k) c b w = elim (cases_lt c (input_count net)) [
     | inl lt ↦ ap (λ (x : ℕ). get_or vs x d) (rep_in net l c lt)
     | inr le ↦
-        let i : ℕ = c - inputs_of net in
-        let e : inputs_of net + i ≡ c = omega arith in
+        let i : ℕ = c - input_count net in
+        let e : input_count net + i ≡ c = omega arith in
         let w' : i < length net.jobs = omega arith in
         let s = stands_for net l i w' in
         let earlier = s.earlier in
-        let at : get_or vs (rep net (inputs_of net + i)) d ≡ get_or vs (inputs_of net + i) d =
+        let at : get_or vs (rep net (input_count net + i)) d ≡ get_or vs (input_count net + i) d =
         ap (λ (x : ℕ). get_or vs x d) (rep_of net l i w')
         ∙ job_is s.job (omega arith) (λ x y. same_below alike k x (omega arith) (omega arith))
         ∙ sym (alike i s.job w' (omega arith) s.equal)
@@ -84,7 +84,7 @@ module _ (net : Net) (l : Legal net) {A : Type 0} (d : A) (step : Job → List A
         subst (λ (c : ℕ). get_or vs (rep net c) d ≡ get_or vs c d) e at
   ]
 
-  pub rep_same : Alike → (c : ℕ) → c < inputs_of net + length net.jobs → get_or vs (rep net c) d ≡ get_or vs c d
+  pub rep_same : Alike → (c : ℕ) → c < input_count net + length net.jobs → get_or vs (rep net c) d ≡ get_or vs c d
   rep_same alike c b = same_below alike (suc c) c (omega arith) b
 
 -- ---- the places of the kept jobs
@@ -92,56 +92,56 @@ module _ (net : Net) (l : Legal net) {A : Type 0} (d : A) (step : Job → List A
 -- the job i is kept, and is the job p of the folded net
 pub record Placed (net : Net) (i p : ℕ) : Type 0 where
   pub job : i < length net.jobs
-  pub kept : is_kept net (inputs_of net + i) ≡ true
+  pub kept : is_kept net (input_count net + i) ≡ true
   pub place : p < length (folded_jobs net)
-  pub number : numbered (is_kept net) (inputs_of net + i) ≡ inputs_of net + p
+  pub number : numbered (is_kept net) (input_count net + i) ≡ input_count net + p
   pub is : job_at (folded_jobs net) p ≡ moved (anew net) (job_at net.jobs i)
 
 module _ (net : Net) (l : Legal net) where
   abbrev kept_jobs : List Job
-  kept_jobs = kept_of (is_kept net) (inputs_of net) net.jobs
+  kept_jobs = kept_of (is_kept net) (input_count net) net.jobs
 
-  pub number_inputs : (c : ℕ) → c ≤ inputs_of net → numbered (is_kept net) c ≡ c
-  number_inputs c b = numbered_first (is_kept net) (inputs_of net) (kept_in net l) c b
+  pub number_inputs : (c : ℕ) → c ≤ input_count net → numbered (is_kept net) c ≡ c
+  number_inputs c b = numbered_first (is_kept net) (input_count net) (kept_in net l) c b
 
-  placed : (i p : ℕ) → Keeps (is_kept net) (inputs_of net) net.jobs i p → Placed net i p
+  placed : (i p : ℕ) → Keeps (is_kept net) (input_count net) net.jobs i p → Placed net i p
   unfolding folded_jobs
   placed i p k = record {
     job = k.job;
     kept = k.kept_is;
     place = let b = k.place in let e = length-map kept_jobs (moved (anew net)) in omega arith;
-    number = let e = k.number in let n = number_inputs (inputs_of net) (omega arith) in omega arith;
+    number = let e = k.number in let n = number_inputs (input_count net) (omega arith) in omega arith;
     is = get_or-map (moved (anew net)) kept_jobs p no_job no_job k.place ∙ ap (moved (anew net)) k.same;
   }
 
-  pub place_of : (i : ℕ) → i < length net.jobs → is_kept net (inputs_of net + i) ≡ true → (p : ℕ) × Placed net i p
-  place_of i b h = let k = keeps_job (is_kept net) (inputs_of net) net.jobs i b h in (k.0, placed i k.0 k.1)
+  pub place_of : (i : ℕ) → i < length net.jobs → is_kept net (input_count net + i) ≡ true → (p : ℕ) × Placed net i p
+  place_of i b h = let k = keeps_job (is_kept net) (input_count net) net.jobs i b h in (k.0, placed i k.0 k.1)
 
   pub job_of : (p : ℕ) → p < length (folded_jobs net) → (i : ℕ) × Placed net i p
   unfolding folded_jobs
-  job_of p b = let e = length-map kept_jobs (moved (anew net)) in let k = keeps_place (is_kept net) (inputs_of net) net.jobs p (omega arith) in (k.0, placed k.0 p k.1)
+  job_of p b = let e = length-map kept_jobs (moved (anew net)) in let k = keeps_place (is_kept net) (input_count net) net.jobs p (omega arith) in (k.0, placed k.0 p k.1)
 
 -- ---- the same entries in the folded net
 
-module _ (net : Net) (l : Legal net) {A : Type 0} (d : A) (step : Job → List A → A) (reads : Reads d step) (vs : List A) (obeys : Obeys d step (inputs_of net) net.jobs vs)
-    (same : (c : ℕ) → c < inputs_of net + length net.jobs → get_or vs (rep net c) d ≡ get_or vs c d)
-    (ws : List A) (folds : Obeys d step (inputs_of net) (folded_jobs net) ws) (first : (c : ℕ) → c < inputs_of net → get_or ws c d ≡ get_or vs c d) where
-  pub kept_below : (k c : ℕ) → c < k → c < inputs_of net + length net.jobs → is_kept net c ≡ true → get_or ws (numbered (is_kept net) c) d ≡ get_or vs c d
+module _ (net : Net) (l : Legal net) {A : Type 0} (d : A) (step : Job → List A → A) (reads : Reads d step) (vs : List A) (obeys : Obeys d step (input_count net) net.jobs vs)
+    (same : (c : ℕ) → c < input_count net + length net.jobs → get_or vs (rep net c) d ≡ get_or vs c d)
+    (ws : List A) (folds : Obeys d step (input_count net) (folded_jobs net) ws) (first : (c : ℕ) → c < input_count net → get_or ws c d ≡ get_or vs c d) where
+  pub kept_below : (k c : ℕ) → c < k → c < input_count net + length net.jobs → is_kept net c ≡ true → get_or ws (numbered (is_kept net) c) d ≡ get_or vs c d
   unfolding Reads Obeys anew
   kept_below zero c b w h = absurd (omega arith)
-  kept_below (suc k) c b w h = elim (cases_lt c (inputs_of net)) [
+  kept_below (suc k) c b w h = elim (cases_lt c (input_count net)) [
     | inl lt ↦ ap (λ (x : ℕ). get_or ws x d) (number_inputs net l c (omega arith)) ∙ first c lt
     | inr le ↦
-        let i : ℕ = c - inputs_of net in
-        let e : inputs_of net + i ≡ c = omega arith in
+        let i : ℕ = c - input_count net in
+        let e : input_count net + i ≡ c = omega arith in
         let w' : i < length net.jobs = omega arith in
-        let h' : is_kept net (inputs_of net + i) ≡ true = subst (λ (x : ℕ). is_kept net x ≡ true) (sym e) h in
+        let h' : is_kept net (input_count net + i) ≡ true = subst (λ (x : ℕ). is_kept net x ≡ true) (sym e) h in
         let q = place_of net l i w' h' in
         let p = q.1 in
         let terms : AllByRecursion (λ (t : Term). get_or ws (anew net t.cell) d ≡ get_or vs t.cell d) (job_at net.jobs i).terms =
         all_two (job_at net.jobs i).terms (λ t y kept. let r = rep_le net l t.cell (omega arith) in
         kept_below k (rep net t.cell) (omega arith) (omega arith) kept ∙ same t.cell (omega arith)) (forward net l i w') (kept_named net l i w' h') in
-        let at : get_or ws (numbered (is_kept net) (inputs_of net + i)) d ≡ get_or vs (inputs_of net + i) d =
+        let at : get_or ws (numbered (is_kept net) (input_count net + i)) d ≡ get_or vs (input_count net + i) d =
         ap (λ (x : ℕ). get_or ws x d) p.number ∙ folds q.0 p.place ∙ ap (λ (j : Job). step j ws) p.is
         ∙ reads (anew net) (job_at net.jobs i) ws vs terms ∙ sym (obeys i w') in
         subst (λ (c : ℕ). get_or ws (numbered (is_kept net) c) d ≡ get_or vs c d) e at
@@ -152,7 +152,7 @@ module _ (net : Net) (l : Legal net) {A : Type 0} (d : A) (step : Job → List A
       all_two (t ∷ ts) f g h = (f t g.0 h.0, all_two ts f g.1 h.1)
 
   -- the cell that is numbered anew holds what the cell held
-  pub anew_same : (c : ℕ) → c < inputs_of net + length net.jobs → is_kept net (rep net c) ≡ true → get_or ws (anew net c) d ≡ get_or vs c d
+  pub anew_same : (c : ℕ) → c < input_count net + length net.jobs → is_kept net (rep net c) ≡ true → get_or ws (anew net c) d ≡ get_or vs c d
   unfolding anew
   anew_same c b h = let r = rep_le net l c b in kept_below (suc c) (rep net c) (omega arith) (omega arith) h ∙ same c b
 

@@ -8,8 +8,8 @@ use Rattle.rx_net.specs.declared.net.Net.{Net}
 use Rattle.rx_net.specs.Cells.{input_cells, laid}
 use Rattle.rx_fold.specs.Jobs.{moved, moved_output, are_equal, job_at}
 
-abbrev pub inputs_of : Net → ℕ
-inputs_of net = input_cells net.space net.inputs
+abbrev pub input_count : Net → ℕ
+input_count net = input_cells net.space net.inputs
 
 -- ---- the cell that stands for a cell, where n cells are those of inputs
 
@@ -23,11 +23,11 @@ unfoldable pub merged_by : ℕ → List Job → List Job
 merged_by n jobs = laid (λ job merged. moved (rep_among n merged) job) [] jobs
 
 abbrev pub merged : Net → List Job
-merged net = merged_by (inputs_of net) net.jobs
+merged net = merged_by (input_count net) net.jobs
 
 -- the cell that stands for the cell c
 unfoldable pub rep : Net → ℕ → ℕ
-rep net c = rep_among (inputs_of net) (merged net) c
+rep net c = rep_among (input_count net) (merged net) c
 
 -- ---- the cells that outputs need
 
@@ -49,13 +49,13 @@ cells_given (o ∷ os) = o.cells ++ cells_given os
 
 -- the cells that stand for those of the outputs, and with a job's cell those that stand for the cells of its terms
 unfoldable pub is_live : Net → ℕ → Bool
-is_live net x = is_needed (map (rep net) (cells_given net.outputs)) (inputs_of net) (merged net) x
+is_live net x = is_needed (map (rep net) (cells_given net.outputs)) (input_count net) (merged net) x
 
 -- ---- the cells that are kept, and their numbers
 
 -- all input cells, and each job's cell that stands for itself and is live
 unfoldable pub is_kept : Net → ℕ → Bool
-is_kept net c = nat_lt c (inputs_of net) || ((rep net c == c) && is_live net c)
+is_kept net c = nat_lt c (input_count net) || ((rep net c == c) && is_live net c)
 
 -- the number of cells below c that are kept: the new number of c
 unfoldable pub numbered : (ℕ → Bool) → ℕ → ℕ
@@ -72,7 +72,7 @@ unfoldable pub anew : Net → ℕ → ℕ
 anew net c = numbered (is_kept net) (rep net c)
 
 unfoldable pub folded_jobs : Net → List Job
-folded_jobs net = map (moved (anew net)) (kept_of (is_kept net) (inputs_of net) net.jobs)
+folded_jobs net = map (moved (anew net)) (kept_of (is_kept net) (input_count net) net.jobs)
 
 unfoldable pub folded : Net → Net
 folded net = record { space = net.space; inputs = net.inputs; jobs = folded_jobs net; outputs = map (moved_output (anew net)) net.outputs }

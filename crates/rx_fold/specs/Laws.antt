@@ -8,7 +8,7 @@ use Rattle.rx_net.specs.Cells.{degree, noise, net_depth, values_after, cells_of,
 use Rattle.rx_net.specs.Numbers.{outs}
 use Rattle.rx_net.specs.Legal.{Legal}
 use Rattle.rx_fold.specs.Jobs.{moved, AreEqual, job_at}
-use Rattle.rx_fold.specs.Folded.{inputs_of, rep, names, names_any, cells_given, is_live, folded}
+use Rattle.rx_fold.specs.Folded.{input_count, rep, names, names_any, cells_given, is_live, folded}
 
 -- ---- what stands for a cell, and what is live
 
@@ -19,13 +19,13 @@ pub record IsFirst (net : Net) (i j : ℕ) : Type 0 where
   pub first : (k : ℕ) → k < i → AreEqual (moved (rep net) (job_at net.jobs k)) (moved (rep net) (job_at net.jobs j)) → ⊥
 
 pub record HasReps (net : Net) : Type 0 where
-  pub of_input : (c : ℕ) → c < inputs_of net → rep net c ≡ c
-  pub of_job : (j : ℕ) → j < length net.jobs → (i : ℕ) × (rep net (inputs_of net + j) ≡ inputs_of net + i) × IsFirst net i j
+  pub of_input : (c : ℕ) → c < input_count net → rep net c ≡ c
+  pub of_job : (j : ℕ) → j < length net.jobs → (i : ℕ) × (rep net (input_count net + j) ≡ input_count net + i) × IsFirst net i j
 
 -- a set that holds what stands for each output's cells and, with a job's cell, what stands for the cells of its terms
 pub record IsClosed (net : Net) (has : ℕ → Bool) : Type 0 where
   pub outputs : (c : ℕ) → IsTrue (names_any (cells_given net.outputs) c) → IsTrue (has (rep net c))
-  pub jobs : (j : ℕ) → j < length net.jobs → IsTrue (has (inputs_of net + j)) → (c : ℕ) → IsTrue (names (job_at net.jobs j) c) → IsTrue (has (rep net c))
+  pub jobs : (j : ℕ) → j < length net.jobs → IsTrue (has (input_count net + j)) → (c : ℕ) → IsTrue (names (job_at net.jobs j) c) → IsTrue (has (rep net c))
 
 -- the live cells are the least such set
 pub record HasLive (net : Net) : Type 0 where
@@ -37,8 +37,8 @@ pub record HasLive (net : Net) : Type 0 where
 -- no two jobs are equal, and each job's cell is an output's or is named by a later job
 pub record IsFolded (net : Net) : Type 0 where
   pub apart : (i j : ℕ) → i < j → j < length net.jobs → AreEqual (job_at net.jobs i) (job_at net.jobs j) → ⊥
-  pub used : (i : ℕ) → i < length net.jobs → IsTrue (names_any (cells_given net.outputs) (inputs_of net + i))
-      ⊎ ((j : ℕ) × (i < j) × (j < length net.jobs) × IsTrue (names (job_at net.jobs j) (inputs_of net + i)))
+  pub used : (i : ℕ) → i < length net.jobs → IsTrue (names_any (cells_given net.outputs) (input_count net + i))
+      ⊎ ((j : ℕ) × (i < j) × (j < length net.jobs) × IsTrue (names (job_at net.jobs j) (input_count net + i)))
 
 -- jobs that differ in the cells of their terms alone
 pub record SameWeights (i j : Job) : Type 0 where
@@ -69,7 +69,7 @@ pub record Folds (old new : Net) : Type 0 where
   pub outs : (inputs : List ℕ) → Within old.space old.inputs inputs → outs new (values_after inputs new.jobs) ≡ outs old (values_after inputs old.jobs)
   pub degrees : map (degree new) (cells_given new.outputs) ≡ map (degree old) (cells_given old.outputs)
   pub noises : map (noise new) (cells_given new.outputs) ≡ map (noise old) (cells_given old.outputs)
-  pub words : (words_of : List ℕ → Job → List ℕ → List ℕ) (basis : List ℕ) (inputs : List (List ℕ)) → ReadsWeights words_of → length inputs ≡ inputs_of old
+  pub words : (words_of : List ℕ → Job → List ℕ → List ℕ) (basis : List ℕ) (inputs : List (List ℕ)) → ReadsWeights words_of → length inputs ≡ input_count old
       → words_given new.outputs (cells_of words_of basis new inputs) ≡ words_given old.outputs (cells_of words_of basis old inputs)
 
 -- What stands for a cell is as its definition says, and so is what is live. The folded net of a legal net has no more jobs and

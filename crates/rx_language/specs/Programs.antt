@@ -123,7 +123,7 @@ abbrev pub is_ranged : ℕ → ℕ → Line → Bool
 is_ranged space width line =
     is_stated (form line.word).stated space line.width && nat_lt line.number (tail_end (form line.word).tail (line_width width line))
 
--- the name is no earlier line's; of `out`, no earlier output's
+-- an earlier line has the name; of `out`, an earlier output has it
 abbrev pub is_taken : List Line → Line → Bool
 is_taken before line = if is_output line.word then is_given_out before line.name else is_defined before line.name
 

@@ -4,7 +4,7 @@ use Rattle.rx_net.specs.declared.net.Net.{Net}
 use Rattle.rx_net.specs.Cells.{laid, job_value, values_after, value}
 use Rattle.rx_plan.specs.Tables.{entries}
 use Rattle.rx_plan.specs.Values.{number_held, cell_value, number, total}
-use Rattle.rx_plan.specs.Rows.{shifted, step_at, rows_number, column_sum, product_at}
+use Rattle.rx_plan.specs.Rows.{shifted, jobs_at_place, rows_number, column_sum, product_at}
 use Rattle.rx_plan.specs.Results.{appended}
 
 spaces : (entries 2 ≡ 16) × (entries 3 ≡ 64)
@@ -39,9 +39,9 @@ unfolding number total value values_after laid job_value
 rows = (refl, refl, refl)
 
 -- moved up by two places
-moved_up : (shifted 2 (λ i. i + 5) 1 ≡ 0) × (shifted 2 (λ i. i + 5) 3 ≡ 6) × (step_at 2 1 ≡ 0)
-    × (step_at 2 3 ≡ 1)
-unfolding shifted step_at
+moved_up : (shifted 2 (λ i. i + 5) 1 ≡ 0) × (shifted 2 (λ i. i + 5) 3 ≡ 6) × (jobs_at_place 2 1 ≡ 0)
+    × (jobs_at_place 2 3 ≡ 1)
+unfolding shifted jobs_at_place
 moved_up = (refl, refl, refl, refl)
 
 -- the table of the low digits of products; the cell 0 holds 3, and place 1 of the cells 1 and 2 holds 2

@@ -13,7 +13,7 @@ use Rattle.rx_net.proofs.Bounded.{greatest_at}
 use Rattle.rx_plan.specs.Tables.{entries, IsTable, HasEntries}
 use Rattle.rx_plan.specs.Values.{AreInputs, number, total, cell_value}
 use Rattle.rx_plan.specs.Planned.{Each, IsCell, AreCells, AreBlocks, Makes, Gives, Planned}
-use Rattle.rx_plan.specs.Rows.{IsNought, IsColumn, shifted, step_at, rows_number, column_sum, product_at}
+use Rattle.rx_plan.specs.Rows.{IsNought, IsColumn, shifted, jobs_at_place, rows_number, column_sum, product_at}
 use Rattle.rx_plan.proofs.Lists.{by_push}
 use Rattle.rx_plan.proofs.Totals.{total_same, total_le, total_mono, total_none, total_split}
 use Rattle.rx_plan.proofs.Terms.{some_entries}
@@ -52,7 +52,7 @@ nought_gives old new c at table h m =
     makes_gives old new c 0 (λ _. Unit) 0 at table m (nought_made old new c at table h m).cell.degree_in
 
 -- the cell that is 0 stands below the row
-pub low_gives : (p : Net) (c shift k : ℕ) → IsBounded p → IsNought p c → k < shift → Gives p p c (2 ^ p.space - 1) (step_at shift k)
+pub low_gives : (p : Net) (c shift k : ℕ) → IsBounded p → IsNought p c → k < shift → Gives p p c (2 ^ p.space - 1) (jobs_at_place shift k)
 low_gives p c shift k b h l =
     subst (λ (j : ℕ). Gives p p c (2 ^ p.space - 1) j) (sym (step_low shift k l))
     (keeps_gives p c (2 ^ p.space - 1) b record { there = h.cell.there; degree_in = omega (arith, h.cell.degree_in); noise_is = h.cell.noise_is })
@@ -62,7 +62,7 @@ low_value p c shift k h b n l xs w = nought_is p c b n xs w ∙ sym (shifted_low
 
 pub product_gives : (p new : Net) (f x y c shift k : ℕ) (table : List ℕ) → f ≡ 2 ^ p.space → greatest_of table ≤ 2 ^ p.space - 1 → IsTable p.space table
     → IsCell p (2 ^ p.space - 1) x → IsCell p (2 ^ p.space - 1) y → shift ≤ k
-    → Makes p new c (λ P. P x × P y) (f * degree p x + degree p y) (λ v. f * v x + v y) table → Gives p new c (2 ^ p.space - 1) (step_at shift k)
+    → Makes p new c (λ P. P x × P y) (f * degree p x + degree p y) (λ v. f * v x + v y) table → Gives p new c (2 ^ p.space - 1) (jobs_at_place shift k)
 product_gives p new f x y c shift k table e g t a b l m =
     let u : ℕ = 2 ^ p.space in
     let r : f * degree p x + degree p y < u * u = two_blocks f u (degree p x) (degree p y) (pow_pos p.space) (omega arith) a.degree_in b.degree_in in
@@ -78,18 +78,18 @@ product_value p new f x c shift k b table e l m xs w =
 -- one more place of a row
 pub row_push : (old now new : Net) (cs : List ℕ) (k shift c : ℕ) (O : (ℕ → Type 0) → Type 0) (h : List ℕ → ℕ → ℕ)
     → Planned old now cs (λ _. 2 ^ old.space - 1) k (k - shift) 1 O h
-    → Gives now new c (2 ^ now.space - 1) (step_at shift k)
+    → Gives now new c (2 ^ now.space - 1) (jobs_at_place shift k)
     → ((d : ℕ) → O (λ o. depth old o ≤ d) → depth new c ≤ d + 1)
     → ((xs : List ℕ) → AreInputs old xs → value new xs c ≡ h xs k)
     → Planned old new (cs ++ c ∷ []) (λ _. 2 ^ old.space - 1) (k + 1) (k + 1 - shift) 1 O h
 row_push old now new cs k shift c O h p g d v =
-    let j : k - shift + step_at shift k ≡ k + 1 - shift =
+    let j : k - shift + jobs_at_place shift k ≡ k + 1 - shift =
     elim (cases_lt k shift) [ inl l ↦ omega (arith, step_low shift k l) | inr l ↦ omega (arith, step_high shift k l) ] in
     subst (λ (j : ℕ). Planned old new (cs ++ c ∷ []) (λ _. 2 ^ old.space - 1) (k + 1) j 1 O h) j
-    (planned_push old now new cs (λ _. 2 ^ old.space - 1) k (k - shift) 1 (step_at shift k) O h c p
-    (subst (λ (s : ℕ). Gives now new c (2 ^ s - 1) (step_at shift k)) p.extends.space g) d v)
+    (planned_push old now new cs (λ _. 2 ^ old.space - 1) k (k - shift) 1 (jobs_at_place shift k) O h c p
+    (subst (λ (s : ℕ). Gives now new c (2 ^ s - 1) (jobs_at_place shift k)) p.extends.space g) d v)
 
-pub room_step : (s k n : ℕ) → k < n → k - s + step_at s k ≤ n - s
+pub room_step : (s k n : ℕ) → k < n → k - s + jobs_at_place s k ≤ n - s
 room_step s k n h = elim (cases_lt k s) [ inl l ↦ omega (arith, step_low s k l) | inr l ↦ omega (arith, step_high s k l) ]
 
 pub shifted_same : (s : ℕ) (f g : ℕ → ℕ) (k : ℕ) → f (k - s) ≡ g (k - s) → shifted s f k ≡ shifted s g k
@@ -98,7 +98,7 @@ shifted_same s f g k e = elim (cases_lt k s) [ inl l ↦ shifted_low s f k l ∙
 pub product_push : (old now new : Net) (cs : List ℕ) (x : ℕ) (b table : List ℕ) (k shift c : ℕ)
     → IsCell old (2 ^ old.space - 1) x → AreCells old (2 ^ old.space - 1) b → k < length b
     → Planned old now cs (λ _. 2 ^ old.space - 1) k (k - shift) 1 (λ P. P x × Each b P) (λ xs k. shifted shift (product_at (2 ^ old.space) old table x b xs) k)
-    → Gives now new c (2 ^ now.space - 1) (step_at shift k)
+    → Gives now new c (2 ^ now.space - 1) (jobs_at_place shift k)
     → ((d : ℕ) → depth now x ≤ d → Each b (λ o. depth now o ≤ d) → depth new c ≤ d + 1)
     → ((xs : List ℕ) → AreInputs now xs → value new xs c ≡ shifted shift (product_at (2 ^ now.space) now table x b xs) k)
     → Planned old new (cs ++ c ∷ []) (λ _. 2 ^ old.space - 1) (k + 1) (k + 1 - shift) 1 (λ P. P x × Each b P) (λ xs k. shifted shift (product_at (2 ^ old.space) old table x b xs) k)

@@ -6,7 +6,7 @@ use Rattle.std.proofs.Math.Nat.{pow-suc, add-mul-mod_self_left, mod-add-mod, add
 use Rattle.rx_plan.specs.Values.{number, total}
 use Rattle.rx_plan.proofs.Numbers.{number_same}
 use Rattle.rx_plan.proofs.Totals.{total_add}
-use Rattle.rx_plan.specs.Rows.{shifted, step_at}
+use Rattle.rx_plan.specs.Rows.{shifted, jobs_at_place}
 
 pub shifted_low : (s : ℕ) (h : ℕ → ℕ) (k : ℕ) → k < s → shifted s h k ≡ 0
 unfolding shifted
@@ -16,12 +16,12 @@ pub shifted_high : (s : ℕ) (h : ℕ → ℕ) (k : ℕ) → s ≤ k → shifted
 unfolding shifted
 shifted_high s h k q = ap (λ b. cond b 0 (h (k - s))) (le-ltb k s q)
 
-pub step_low : (s k : ℕ) → k < s → step_at s k ≡ 0
-unfolding step_at
+pub step_low : (s k : ℕ) → k < s → jobs_at_place s k ≡ 0
+unfolding jobs_at_place
 step_low s k q = ap (λ b. cond b 0 1) (lt-ltb k s q)
 
-pub step_high : (s k : ℕ) → s ≤ k → step_at s k ≡ 1
-unfolding step_at
+pub step_high : (s k : ℕ) → s ≤ k → jobs_at_place s k ≡ 1
+unfolding jobs_at_place
 step_high s k q = ap (λ b. cond b 0 1) (le-ltb k s q)
 
 -- sums modulo n

@@ -15,8 +15,8 @@ unfoldable pub shifted : ℕ → (ℕ → ℕ) → ℕ → ℕ
 shifted shift digit place = if nat_lt place shift then 0 else digit (place - shift)
 
 -- the jobs of a place of a row that is moved up
-unfoldable pub step_at : ℕ → ℕ → ℕ
-step_at shift place = if nat_lt place shift then 0 else 1
+unfoldable pub jobs_at_place : ℕ → ℕ → ℕ
+jobs_at_place shift place = if nat_lt place shift then 0 else 1
 
 -- the sum of the numbers of the first count rows of width cells
 abbrev pub rows_number : ℕ → Net → List ℕ → ℕ → ℕ → List ℕ → ℕ

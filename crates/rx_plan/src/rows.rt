@@ -7,7 +7,7 @@ ghost use Rattle.rx_net.specs.Growth.{Extends};
 ghost use Rattle.rx_plan.specs.Tables.{IsTable, HasEntries};
 ghost use Rattle.rx_plan.specs.Values.{AreInputs, cell_value, total};
 ghost use Rattle.rx_plan.specs.Planned.{Each, IsCell, AreBlocks, HasRoom, Gives, Planned};
-ghost use Rattle.rx_plan.specs.Rows.{IsNought, IsColumn, shifted, step_at, column_sum, product_at};
+ghost use Rattle.rx_plan.specs.Rows.{IsNought, IsColumn, shifted, jobs_at_place, column_sum, product_at};
 
 use crate::jobs::{fixed, pair};
 use crate::sums::sum;
@@ -75,10 +75,10 @@ fn product_cell(
     requires nought { IsNought pen.old nought }
     requires table { IsTable pen.old.space table.now }
     requires small { greatest_of table.now ≤ 2 ^ pen.old.space - 1 }
-    requires room { HasRoom pen.old (step_at shift k) }
+    requires room { HasRoom pen.old (jobs_at_place shift k) }
     ensures kept { Extends pen.old pen.new }
     ensures gives { IfOk result (λ cell. Gives pen.old pen.new cell
-        (2 ^ pen.old.space - 1) (step_at shift k)) }
+        (2 ^ pen.old.space - 1) (jobs_at_place shift k)) }
     ensures deep { IfOk result (λ cell. (d : ℕ) → depth pen.old x ≤ d
         → Each b.now (λ o. depth pen.old o ≤ d) → depth pen.new cell ≤ d + 1) }
     ensures value { IfOk result (λ cell. (xs : List ℕ) → AreInputs pen.old xs

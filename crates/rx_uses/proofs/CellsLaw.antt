@@ -7,7 +7,7 @@ use Rattle.rx_net.specs.declared.net.Net.{Net}
 use Rattle.rx_net.specs.Cells.{input_cells, operand_words, cells_of}
 use Rattle.rx_net.specs.Legal.{Legal}
 use Rattle.rx_net.proofs.WordsOf.{input_cell_is, job_cell_is}
-use Rattle.rx_uses.specs.Cells.{IsJob, rows}
+use Rattle.rx_uses.specs.Cells.{IsJobAt, rows}
 
 suc-mul-flip : (i w : ℕ) → suc i * w ≡ w + i * w
 suc-mul-flip i w = let e = suc-mul i w in let x : ℕ = i * w in omega arith
@@ -28,7 +28,7 @@ module _ (words_of : List ℕ → Job → List ℕ → List ℕ) (basis : List �
   cells = cells_of words_of basis net (rows w (input_cells net.space net.inputs) inputs)
 
   -- a job's cell has the words that the definition gives for the operands among the cells
-  pub cell_is : (j : ℕ) (x : Job) → Legal net → j < length net.jobs → IsJob net.jobs j x →
+  pub cell_is : (j : ℕ) (x : Job) → Legal net → j < length net.jobs → IsJobAt net.jobs j x →
       get_or cells (input_cells net.space net.inputs + j) [] ≡ words_of basis x (operand_words cells x.terms)
   cell_is j x legal l is =
       job_cell_is words_of basis net (rows w (input_cells net.space net.inputs) inputs) j x legal (length-rows w (input_cells net.space net.inputs) inputs) l is.1

@@ -6,10 +6,10 @@ use Rattle.rx_net.specs.declared.net.Job.{Job}
 use Rattle.rx_net.specs.declared.net.Net.{Net}
 use Rattle.rx_net.specs.Limits.{most_terms}
 use Rattle.rx_net.specs.Cells.{input_cells}
-use Rattle.rx_net.specs.Legal.{IsJob as FollowsJobs, Legal}
+use Rattle.rx_net.specs.Legal.{IsJob, Legal}
 use Rattle.rx_net.proofs.Faults.{turn_at}
 use Rattle.rx_net.proofs.Limits.{few_input_cells}
-use Rattle.rx_uses.specs.Cells.{terms_at, table_at, IsJob, Forward}
+use Rattle.rx_uses.specs.Cells.{terms_at, table_at, IsJobAt, Forward}
 
 -- what holds of every legal net
 pub record Lawful (net : Net) : Type 0 where
@@ -21,13 +21,13 @@ pub record Lawful (net : Net) : Type 0 where
   pub tables : (j : ℕ) → j < length net.jobs → length (table_at net.jobs j) ≡ 4 ^ net.space
 
 -- a number below the count is that of a job
-pub job_of : (jobs : List Job) (j : ℕ) → j < length jobs → (x : Job) × IsJob jobs j x
+pub job_of : (jobs : List Job) (j : ℕ) → j < length jobs → (x : Job) × IsJobAt jobs j x
 job_of [] j l = absurd (omega arith)
 job_of (x ∷ xs) zero l = (x, (refl, refl, refl))
 job_of (x ∷ xs) (suc j) l = let h = job_of xs j (omega arith) in (h.0, (h.1.0, h.1.1, h.1.2))
 
 -- what a read of the jobs gives
-pub job_at : (jobs : List Job) (j : ℕ) (x : Job) → j < length jobs → x ≡ get_or jobs j x → IsJob jobs j x
+pub job_at : (jobs : List Job) (j : ℕ) (x : Job) → j < length jobs → x ≡ get_or jobs j x → IsJobAt jobs j x
 job_at [] j x l e = absurd (omega arith)
 job_at (y ∷ ys) zero x l e = (ap (λ (z : Job). z.terms) (sym e), e, ap (λ (z : Job). z.table) (sym e))
 job_at (y ∷ ys) (suc j) x l e = let h = job_at ys j x (omega arith) e in (h.0, e, h.2)
@@ -38,8 +38,8 @@ term_at P [] k d l all = absurd (omega arith)
 term_at P (t ∷ ts) zero d l all = all.0
 term_at P (t ∷ ts) (suc k) d l all = term_at P ts k d (omega arith) all.1
 
-follows : (net : Net) → Legal net → (j : ℕ) (x : Job) → j < length net.jobs → IsJob net.jobs j x → FollowsJobs net.space net.inputs (take j net.jobs) x
-follows net legal j x l is = turn_at (FollowsJobs net.space net.inputs) [] net.jobs legal.jobs j x l is.1
+follows : (net : Net) → Legal net → (j : ℕ) (x : Job) → j < length net.jobs → IsJobAt net.jobs j x → IsJob net.space net.inputs (take j net.jobs) x
+follows net legal j x l is = turn_at (IsJob net.space net.inputs) [] net.jobs legal.jobs j x l is.1
 
 pub lawful : (net : Net) → Legal net → Lawful net
 lawful net legal = record {

@@ -16,8 +16,8 @@ table_at (x ∷ xs) zero = x.table
 table_at (x ∷ xs) (suc j) = table_at xs j
 
 -- x is the job j, and has its terms and its table
-abbrev pub IsJob : List Job → ℕ → Job → Type 0
-IsJob jobs j x = (terms_at jobs j ≡ x.terms) × (x ≡ get_or jobs j x) × (table_at jobs j ≡ x.table)
+abbrev pub IsJobAt : List Job → ℕ → Job → Type 0
+IsJobAt jobs j x = (terms_at jobs j ≡ x.terms) × (x ≡ get_or jobs j x) × (table_at jobs j ≡ x.table)
 
 -- each term of a job names one of the cells before the job's, of which the first n are those of the inputs
 abbrev pub Forward : ℕ → List Job → Type 0

@@ -10,20 +10,20 @@ use std::thread::Threads;
 use std::{hint, thread};
 
 /// How often a worker finds no job before it leaves: each time it found one taken.
-const MOST_REFUSALS: u32 = 1 << 20;
+const MOST_MISSES: u32 = 1 << 20;
 
 /// How many turns a worker waits at most before it looks for a job again.
 const LONGEST_PAUSE: u32 = 1 << 10;
 
 /// Lets other threads get on, the longer the more often no job was found.
-fn pause(refusals: u32) {
+fn pause(misses: u32) {
     thread::yield_now();
-    for _ in 0..refusals.min(LONGEST_PAUSE) {
+    for _ in 0..misses.min(LONGEST_PAUSE) {
         hint::spin_loop();
     }
 }
 
-/// Works until each job is known, or until a job was found taken `MOST_REFUSALS` times.
+/// Works until each job is known, or until a job was found taken `MOST_MISSES` times.
 fn drain<K: SureKernel>(board: &Board<'_, K>, worker: &mut Worker<K>)
     requires { IsFit K.basis K.width K.space K.told board.now worker.old }
     ensures fit { IsFit K.basis K.width K.space K.told board.now worker.new }
@@ -31,13 +31,13 @@ fn drain<K: SureKernel>(board: &Board<'_, K>, worker: &mut Worker<K>)
     ensures knows { KnowsAll worker.old.seat.view worker.new.seat.view }
     ensures drained { HasDrained board.now worker.new.seat.view }
 {
-    let mut refusals = 0;
-    while refusals < MOST_REFUSALS {
+    let mut misses = 0;
+    while misses < MOST_MISSES {
         match board.step(&mut worker.seat, &mut worker.desk, &mut worker.kernel) {
             Step::Ran(_) => {}
             Step::NotReady(_) => {
-                refusals += 1;
-                pause(refusals);
+                misses += 1;
+                pause(misses);
             }
             Step::Done => return,
             // The kernel never refuses.

@@ -5,7 +5,7 @@ use Rattle.rx_plan.proofs.Given.{bit_given}
 use Rattle.rx_plan.proofs.Planned.{planned_same}
 use Rattle.rx_costs.specs.Table.{compare_jobs, compare_depth}
 use Rattle.rx_carry.specs.Carries.{flipped, is_less}
-use Rattle.rx_cmp.specs.Order.{is_most, ranked}
+use Rattle.rx_cmp.specs.Order.{is_at_most, ranked}
 use Rattle.rx_cmp.proofs.Ordered.{not_less}
 use Rattle.rx_cmp.proofs.order.ge.Goals as goal
 
@@ -18,7 +18,7 @@ returns-clause-gives c =
     let bits : ℕ = p.space * n in
     let new = c.below.new.pen in
     let cs : List ℕ = c.in_ok-cell.cell ∷ [] in
-    let bit : List ℕ → ℕ = λ (xs : List ℕ). is_most (number_held p b xs) (number_held p a xs) in
+    let bit : List ℕ → ℕ = λ (xs : List ℕ). is_at_most (number_held p b xs) (number_held p a xs) in
     bit_given p new c.args.out.now.items c.push.new.self.items cs (compare_jobs n) (compare_depth n) (EachOf a b) bit c.in_ok-push.ensures.items
     (planned_same p new cs (λ _. 1) (λ _. 1) 1 (compare_jobs n) (compare_depth n) (EachOf a b)
     (λ xs _. flipped true (is_less (ranked false (p.space * length a) (number_held p a xs)) (ranked false (p.space * length a) (number_held p b xs))))

@@ -7,7 +7,7 @@ use Rattle.rx_plan.proofs.Held.{held_small}
 use Rattle.rx_plan.proofs.Planned.{planned_same}
 use Rattle.rx_costs.specs.Table.{compare_jobs, compare_depth}
 use Rattle.rx_carry.specs.Carries.{flipped, is_less}
-use Rattle.rx_cmp.specs.Order.{is_at_most, ranked}
+use Rattle.rx_cmp.specs.Order.{is_at_most_signed, ranked}
 use Rattle.rx_cmp.proofs.Ordered.{not_below, signed_order}
 use Rattle.rx_cmp.proofs.SignedOut.{bits_some}
 use Rattle.rx_cmp.proofs.order.sge.Goals as goal
@@ -22,7 +22,7 @@ returns-clause-gives c =
     let some : 1 ≤ bits = bits_some p.space n (omega arith) c.requires.some in
     let new = c.below.new.pen in
     let cs : List ℕ = c.in_ok-cell.cell ∷ [] in
-    let bit : List ℕ → ℕ = λ (xs : List ℕ). is_at_most (signed bits (number_held p b xs)) (signed bits (number_held p a xs)) in
+    let bit : List ℕ → ℕ = λ (xs : List ℕ). is_at_most_signed (signed bits (number_held p b xs)) (signed bits (number_held p a xs)) in
     bit_given p new c.args.out.now.items c.push.new.self.items cs (compare_jobs n) (compare_depth n) (EachOf a b) bit c.in_ok-push.ensures.items
     (planned_same p new cs (λ _. 1) (λ _. 1) 1 (compare_jobs n) (compare_depth n) (EachOf a b)
     (λ xs _. flipped true (is_less (ranked true (p.space * length a) (number_held p a xs)) (ranked true (p.space * length a) (number_held p b xs))))

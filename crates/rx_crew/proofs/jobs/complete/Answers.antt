@@ -48,7 +48,7 @@ complete_job-runs-requires-clause-forward g c =
       length-take (c.input_cells-inputs.result + i) c.loop-number.cells,
       c.loop-number.auto.cells,
       c.requires.count,
-      c.input_cells-inputs.ensures,
+      c.input_cells-inputs.ensures.count,
     )
 
 pub complete_job-runs-requires-clause-present : goal.complete_job-runs-requires-clause-present
@@ -62,9 +62,9 @@ complete_job-runs-requires-clause-present g c =
     let same : length c.as_slice-job-items.result.now ≡ length jobs = ap length c.as_slice-job-items.ensures in
     let here : i < length jobs = omega (arith, c.loop-number-test.true) in
     let long : length inputs ≡ input_cells c.args.net.now.space c.args.net.now.inputs =
-    omega (arith, length-take-le c.input_cells-inputs.result c.args.cells.now (omega (arith, c.requires.count, c.input_cells-inputs.ensures)), c.input_cells-inputs.ensures) in
+    omega (arith, length-take-le c.input_cells-inputs.result c.args.cells.now (omega (arith, c.requires.count, c.input_cells-inputs.ensures.count)), c.input_cells-inputs.ensures.count) in
     let holds : HoldsCells first c.args.net.now inputs c.args.closed.now =
-    subst (λ (n : ℕ). HoldsCells first c.args.net.now (take n c.args.cells.now) c.args.closed.now) (sym c.input_cells-inputs.ensures) c.requires.closed in
+    subst (λ (n : ℕ). HoldsCells first c.args.net.now (take n c.args.cells.now) c.args.closed.now) (sym c.input_cells-inputs.ensures.count) c.requires.closed in
     let words : ServerWords → List Block → List ℕ = λ k bs. let b : Block = job_block k job bs in b.words in
     λ two.
     holds.cells i here two
@@ -80,7 +80,7 @@ loop-number-preserved g c =
     let key : ServerWords = c.args.kernel.now.kernel.key in
     let cells : List Block = c.loop-number.cells in
     let same : length c.as_slice-job-items.result.now ≡ length c.args.net.now.jobs = ap length c.as_slice-job-items.ensures in
-    let here : place < length cells = omega (arith, c.loop-number-test.true, c.loop-number.auto.cells, c.requires.count, c.input_cells-inputs.ensures) in
+    let here : place < length cells = omega (arith, c.loop-number-test.true, c.loop-number.auto.cells, c.requires.count, c.input_cells-inputs.ensures.count) in
     let next : inputs + (i + 1) ≡ place + 1 = omega arith in
     let more : present_below c.args.closed.now (i + 1) ≡ present_below c.args.closed.now i + one_if (state_of c.args.closed.now i == 2) =
     (let s : i + 1 ≡ suc i = omega arith in ap (present_below c.args.closed.now) s) in
@@ -98,5 +98,5 @@ returns-clause-cells g c =
     let key : ServerWords = c.args.kernel.now.kernel.key in
     let same : length c.as_slice-job-items.result.now ≡ length c.args.net.now.jobs = ap length c.as_slice-job-items.ensures in
     laid-all key c.args.net.now (take c.input_cells-inputs.result c.args.cells.now) c.loop-number.cells (c.input_cells-inputs.result + c.loop-number.number) c.loop-number.number
-    (omega (arith, c.loop-number-test.false, c.loop-number.auto.cells, c.requires.count, c.input_cells-inputs.ensures)) (omega (arith, c.loop-number-test.false)) c.loop-number.invariant.laid
-    ∙ ap (λ n. evaluated key c.args.net.now (take n c.args.cells.now)) c.input_cells-inputs.ensures
+    (omega (arith, c.loop-number-test.false, c.loop-number.auto.cells, c.requires.count, c.input_cells-inputs.ensures.count)) (omega (arith, c.loop-number-test.false)) c.loop-number.invariant.laid
+    ∙ ap (λ n. evaluated key c.args.net.now (take n c.args.cells.now)) c.input_cells-inputs.ensures.count

@@ -22,6 +22,10 @@ loop-input-preserved c =
     let s = step c.args.net.now.space c.loop-input.count c.args.net.now.inputs c.as_slice-input-items.result.now c.loop-input.input-index c.input-item.result
     c.as_slice-input-items.ensures c.loop-input-test.true c.input-item.is c.loop-input.invariant in omega arith
 
-pub returns : goal.returns
-returns c = let n : length c.as_slice-input-items.result.now ≡ length c.args.net.now.inputs = ap (λ (is : List NetInput). length is) c.as_slice-input-items.ensures in
+pub returns-clause-count : goal.returns-clause-count
+returns-clause-count c = let n : length c.as_slice-input-items.result.now ≡ length c.args.net.now.inputs = ap (λ (is : List NetInput). length is) c.as_slice-input-items.ensures in
     omega (arith, c.loop-input.invariant, input_cells_past c.args.net.now.space c.args.net.now.inputs c.loop-input.input-index (omega (arith, c.loop-input-test.false)))
+
+pub returns-clause-few : goal.returns-clause-few
+returns-clause-few c = let n : length c.as_slice-input-items.result.now ≡ length c.args.net.now.inputs = ap (λ (is : List NetInput). length is) c.as_slice-input-items.ensures in
+    omega (arith, c.loop-input.invariant, input_cells_past c.args.net.now.space c.args.net.now.inputs c.loop-input.input-index (omega (arith, c.loop-input-test.false)), few_input_cells c.args.net.now c.requires.limits)

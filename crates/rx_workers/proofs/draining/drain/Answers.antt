@@ -3,13 +3,13 @@ use Rattle.rx_board.specs.Rule.{job_count}
 use Rattle.rx_workers.proofs.Turns.{missing, keeps_on, taken_more, taken_keeps, missing_less, knows_on, knows_more, knows_same}
 use Rattle.rx_workers.proofs.draining.drain.Goals as goal
 
-pub loop-refusals-smaller-in-Ran : goal.loop-refusals-smaller-in-Ran
-loop-refusals-smaller-in-Ran g c = let t = c.in-Ran.ensures.told in let less = missing_less (job_count c.args.board.now.plan) c.loop-refusals.worker.seat.view.ran c.in-Ran.field-0 t.0 t.2 in
-    let same : missing (job_count c.args.board.now.plan) c.step.new.seat.view.ran ≡ missing (job_count c.args.board.now.plan) (c.loop-refusals.worker.seat.view.ran ++ c.in-Ran.field-0 ∷ []) = ap (missing (job_count c.args.board.now.plan)) t.1 in
+pub loop-misses-smaller-in-Ran : goal.loop-misses-smaller-in-Ran
+loop-misses-smaller-in-Ran g c = let t = c.in-Ran.ensures.told in let less = missing_less (job_count c.args.board.now.plan) c.loop-misses.worker.seat.view.ran c.in-Ran.field-0 t.0 t.2 in
+    let same : missing (job_count c.args.board.now.plan) c.step.new.seat.view.ran ≡ missing (job_count c.args.board.now.plan) (c.loop-misses.worker.seat.view.ran ++ c.in-Ran.field-0 ∷ []) = ap (missing (job_count c.args.board.now.plan)) t.1 in
     omega arith
 
-pub loop-refusals-preserved-in-Ran : goal.loop-refusals-preserved-in-Ran
-loop-refusals-preserved-in-Ran g c = let inv = c.loop-refusals.invariant in let k = taken_keeps _ _ c.step.ensures.keeps in record {
+pub loop-misses-preserved-in-Ran : goal.loop-misses-preserved-in-Ran
+loop-misses-preserved-in-Ran g c = let inv = c.loop-misses.invariant in let k = taken_keeps _ _ c.step.ensures.keeps in record {
   fit = record {
     seat = c.step.ensures.seat.0;
     desk = c.step.ensures.desk ∙ inv.fit.desk;
@@ -25,8 +25,8 @@ loop-refusals-preserved-in-Ran g c = let inv = c.loop-refusals.invariant in let 
   enough = let e = inv.enough in omega arith;
 }
 
-pub loop-refusals-preserved : goal.loop-refusals-preserved
-loop-refusals-preserved g c = let inv = c.loop-refusals.invariant in let t = c.in-NotReady.ensures.told in let k = taken_more _ _ _ t.2 in record {
+pub loop-misses-preserved : goal.loop-misses-preserved
+loop-misses-preserved g c = let inv = c.loop-misses.invariant in let t = c.in-NotReady.ensures.told in let k = taken_more _ _ _ t.2 in record {
   fit = record {
     seat = c.step.ensures.seat.0;
     desk = c.step.ensures.desk ∙ inv.fit.desk;
@@ -43,4 +43,4 @@ loop-refusals-preserved g c = let inv = c.loop-refusals.invariant in let t = c.i
 }
 
 pub returns-in-Done-clause-knows : goal.returns-in-Done-clause-knows
-returns-in-Done-clause-knows g c = knows_on _ _ _ c.loop-refusals.invariant.knows (knows_same _ _ c.step.ensures.keeps c.in-Done.ensures.told.0)
+returns-in-Done-clause-knows g c = knows_on _ _ _ c.loop-misses.invariant.knows (knows_same _ _ c.step.ensures.keeps c.in-Done.ensures.told.0)

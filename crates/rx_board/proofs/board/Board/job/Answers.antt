@@ -4,7 +4,7 @@ use Rattle.rx_net.specs.declared.net.Job.{Job}
 use Rattle.rx_net.specs.declared.term.Term.{Term}
 use Rattle.rx_net.specs.Cells.{operand_words}
 use Rattle.rx_net.specs.Legal.{Legal}
-use Rattle.rx_uses.specs.Cells.{IsJob, terms_at}
+use Rattle.rx_uses.specs.Cells.{IsJobAt, terms_at}
 use Rattle.rx_uses.proofs.CellsLaw.{cell_is}
 use Rattle.rx_uses.proofs.Legality.{lawful, job_at}
 use Rattle.rx_board.specs.Rule.{BoardValue, input_count, cell}
@@ -27,7 +27,7 @@ returns-clause-words g c = let n = c.self.inside.net.now in let x : Job = c.inde
     (cell_is g.K.JobWords.words_of (g.K.Kernel.basis k.kernel.value) k.net.now k.width k.inputs.now c.args.job x
     (subst Legal back c.self.invariant.4.legal)
     (subst (λ (m : Net). c.args.job < length m.jobs) back within)
-    (subst (λ (m : Net). IsJob m.jobs c.args.job x) back (job_at n.jobs c.args.job x within read)))
+    (subst (λ (m : Net). IsJobAt m.jobs c.args.job x) back (job_at n.jobs c.args.job x within read)))
 
 pub returns-clause-few : goal.returns-clause-few
 returns-clause-few g c = let n = c.self.inside.net.now in let x : Job = c.index-as_slice-job.result in
