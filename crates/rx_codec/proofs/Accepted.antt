@@ -7,29 +7,29 @@ use Rattle.rx_params.specs.declared.kind.Kind.{Kind}
 use Rattle.rx_params.specs.declared.kind.Kind.TheVariants.{Int, Bit}
 use Rattle.rx_params.specs.Derived.{noise_limit}
 use Rattle.rx_params.specs.Kinds.{greatest}
-use Rattle.rx_params.specs.Acceptance.{Accepts}
+use Rattle.rx_params.specs.Acceptance.{FieldsInRange, Accepts}
 use Rattle.rx_params.specs.Text.{fields_of}
 use Rattle.rx_params.proofs.Sizes.{poly_size-high}
 
-few_bits : (p : Params) → Accepts p → p.message_bits ≤ 3
-few_bits p h = elim h.fields.message_bits [ inl e ↦ omega (arith, e) | inr e ↦ omega (arith, e) ]
+few_bits : (p : Params) → FieldsInRange p → p.message_bits ≤ 3
+few_bits p fields = elim fields.message_bits [ inl e ↦ omega (arith, e) | inr e ↦ omega (arith, e) ]
 
-pub fields_below : (p : Params) → Accepts p → AllByRecursion (λ n. n < 2 ^ 32) (fields_of p)
-fields_below p h = (
-  omega (arith, few_bits p h),
+pub fields_below : (p : Params) → FieldsInRange p → AllByRecursion (λ n. n < 2 ^ 32) (fields_of p)
+fields_below p fields = (
+  omega (arith, few_bits p fields),
   (
-    omega (arith, h.fields.glwe_dim.1),
+    omega (arith, fields.glwe_dim.1),
     (
-      omega (arith, poly_size-high p h.fields),
+      omega (arith, poly_size-high p fields),
       (
-        omega (arith, h.fields.lwe_dim.1),
+        omega (arith, fields.lwe_dim.1),
         (
-          omega (arith, h.fields.pbs_base_log.1),
+          omega (arith, fields.pbs_base_log.1),
           (
-            omega (arith, h.fields.pbs_level.0.1),
+            omega (arith, fields.pbs_level.0.1),
             (
-              omega (arith, h.fields.ks_base_log.1),
-              (omega (arith, h.fields.ks_level.0.1), (omega (arith, h.fields.glwe_bound), (omega (arith, h.fields.lwe_bound), tt))),
+              omega (arith, fields.ks_base_log.1),
+              (omega (arith, fields.ks_level.0.1), (omega (arith, fields.glwe_bound), (omega (arith, fields.lwe_bound), tt))),
             ),
           ),
         ),
@@ -39,7 +39,7 @@ fields_below p h = (
 )
 
 power_below : (p : Params) → Accepts p → 2 ^ p.message_bits ≤ 8
-power_below p h = pow-le-pow_right (lit≤ tt) (few_bits p h)
+power_below p h = pow-le-pow_right (lit≤ tt) (few_bits p h.fields)
 
 pub degree_below : (p : Params) (kind : Kind) → Accepts p → greatest kind p.message_bits < 256
 degree_below p Int h = omega (arith, power_below p h)

@@ -64,7 +64,7 @@ ten (a ∷ b ∷ c ∷ d ∷ e ∷ f ∷ g ∷ h ∷ i ∷ []) len = absurd (ome
 ten (a ∷ b ∷ c ∷ d ∷ e ∷ f ∷ g ∷ h ∷ i ∷ j ∷ []) len = refl
 ten (a ∷ b ∷ c ∷ d ∷ e ∷ f ∷ g ∷ h ∷ i ∷ j ∷ k ∷ ns) len = absurd (omega (arith, len))
 
-fields_takes : (file : List ℕ) (at : ℕ) (x : Params × ℕ) → IsBytes file → at ≤ length file → fields_at file at ≡ Ok x → Stands file at (params_bytes x.0) x.1
+pub fields_takes : (file : List ℕ) (at : ℕ) (x : Params × ℕ) → IsBytes file → at ≤ length file → fields_at file at ≡ Ok x → Stands file at (params_bytes x.0) x.1
 fields_takes file at x fits le e =
     let a = bind_ok (many_at (λ before. number_at w32) 10 [] file at) made_from x (sym (fields_are file at) ∙ e) in
     let t = many_takes (λ before. number_at w32) (to_le_bytes w32) IsFourBytes four_bytes_tells 10 [] file at a.0 fits le a.1 in
@@ -73,7 +73,7 @@ fields_takes file at x fits le e =
     subst (λ (y : Params × ℕ). Stands file at (params_bytes y.0) y.1) (ok_is made x a.2)
     (subst (λ (ns : List ℕ). Stands file at (flat_map (to_le_bytes w32) ns) a.0.1) (sym values) t.there)
 
-fields_again : (file : List ℕ) (at : ℕ) (p : Params) (after : ℕ) → AllByRecursion (λ n. n < 2 ^ 32) (fields_of p) → Stands file at (params_bytes p) after → fields_at file at ≡ Ok (p, after)
+pub fields_again : (file : List ℕ) (at : ℕ) (p : Params) (after : ℕ) → AllByRecursion (λ n. n < 2 ^ 32) (fields_of p) → Stands file at (params_bytes p) after → fields_at file at ≡ Ok (p, after)
 fields_again file at p after fits there =
     let four : InTurn IsFourBytes [] (fields_of p) = turn_of_each (λ (n : ℕ). n < 2 ^ 32) IsFourBytes (λ before n below. below) [] (fields_of p) fits in
     fields_are file at
@@ -84,7 +84,7 @@ pub record TakenParams (file : List ℕ) (at : ℕ) (x : Params × ℕ) : Type 0
   pub there : Stands file at (params_bytes x.0) x.1
   pub accepted : Accepts x.0
 
-accepted_takes : (answer : Result Bounds Refused) (x y : Params × ℕ) → accepted_or answer x ≡ Ok y → (x ≡ y) × (bounds : Bounds) × (answer ≡ Ok bounds)
+pub accepted_takes : (answer : Result Bounds Refused) (x y : Params × ℕ) → accepted_or answer x ≡ Ok y → (x ≡ y) × (bounds : Bounds) × (answer ≡ Ok bounds)
 accepted_takes (Ok bounds) x y e = (ok_is x y e, bounds, refl)
 accepted_takes (Err refused) x y e = absurd cc
 
@@ -98,5 +98,5 @@ params_takes file at x fits le e =
 pub params_again : (file : List ℕ) (at : ℕ) (p : Params) (after : ℕ) → Accepts p → Stands file at (params_bytes p) after → params_at file at ≡ Ok (p, after)
 unfolding params_at
 params_again file at p after fits there =
-    ap (λ (r : Result (Params × ℕ) CodecFault). r >>= λ read. accepted_or (checked read.0) read) (fields_again file at p after (fields_below p fits) there)
+    ap (λ (r : Result (Params × ℕ) CodecFault). r >>= λ read. accepted_or (checked read.0) read) (fields_again file at p after (fields_below p fits.fields) there)
     ∙ ap (λ (answer : Result Bounds Refused). accepted_or answer (p, after)) (checked-accepted p fits)

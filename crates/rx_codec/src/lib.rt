@@ -25,7 +25,7 @@ pub use fault::CodecFault;
 pub use laws::file_laws;
 pub use lists::{Blocks, Items};
 pub use net_file::{decode_net, encode_net};
-pub use params_fields::{read_params, write_params};
+pub use params_fields::{read_fields, read_params, write_params};
 pub use reader::{Reader, in_range, words_of};
 pub use server::{decode_server, encode_server};
 pub use shapes::block_words;

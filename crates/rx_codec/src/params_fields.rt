@@ -10,8 +10,9 @@ use crate::writer::write_numbers;
 use rx_params::{Params, check};
 use std::alloc::AllocError;
 
+/// The ten fields that stand where the reader is, whatever their values are.
 #[tactic(auto, unfolding(crate::specs::ParamsFields::fields_at))]
-fn read_fields(reader: &mut Reader) -> Result<Params, CodecFault>
+pub fn read_fields(reader: &mut Reader) -> Result<Params, CodecFault>
     ensures value { GivesExactlyAt (λ p. p) reader.new.at result
         (fields_at reader.old.file reader.old.at) }
     ensures file { reader.new.file ≡ reader.old.file }

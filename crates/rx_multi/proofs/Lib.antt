@@ -3,3 +3,4 @@ pub mod Keys
 pub mod ChosenParts
 pub mod Turning
 pub mod Lookup
+mod Examples

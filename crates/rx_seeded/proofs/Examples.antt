@@ -10,15 +10,15 @@ use Rattle.rx_codec.specs.declared.cipher.Cipher.{Cipher}
 use Rattle.rx_codec.specs.declared.fault.CodecFault.TheVariants.{Short, Magic}
 use Rattle.rx_codec.specs.ParamsFields.{fields_at, params_at}
 use Rattle.rx_codec.specs.CipherFile.{item_bytes}
-use Rattle.rx_seeded.specs.declared.kind.FileKind.TheVariants.{SeededServer as IsSeededServer, Net as IsNet, Cipher as IsCipherFile}
+use Rattle.rx_seeded.specs.declared.kind.FileKind.TheVariants.{SeededServer as IsSeededServer, Net as IsNet, Pairs as IsPairs, Cipher as IsCipherFile}
 use Rattle.rx_seeded.specs.FileKinds.{kind_of}
 use Rattle.rx_seeded.specs.Masks.{first_unlike}
 use Rattle.rx_seeded.specs.SeededServer.{seeded_server_from}
 use Rattle.rx_seeded.specs.SeededCipher.{short_item, seeded_cipher_bytes, bodies_from, seeded_cipher_from}
 
 kinds : (kind_of (codes "RXS2 and more") ≡ Some IsSeededServer) × (kind_of (codes "RXE1") ≡ Some IsCipherFile)
-    × (kind_of (codes "RXN1") ≡ Some IsNet) × (kind_of (codes "RXN") ≡ None) × (kind_of (codes "RXF1") ≡ None)
-kinds = (refl, refl, refl, refl, refl)
+    × (kind_of (codes "RXN1") ≡ Some IsNet) × (kind_of (codes "RXM1") ≡ Some IsPairs) × (kind_of (codes "RXN") ≡ None) × (kind_of (codes "RXF1") ≡ None)
+kinds = (refl, refl, refl, refl, refl, refl)
 
 -- the second word differs, and stands at 52
 unlike : (first_unlike 44 (1 ∷ 2 ∷ 3 ∷ []) (1 ∷ 9 ∷ 8 ∷ []) ≡ Some 52) × (first_unlike 44 (1 ∷ 2 ∷ []) (1 ∷ 2 ∷ []) ≡ None)

@@ -2,7 +2,7 @@
 use Rattle.std.specs.Prelude.{ℕ, List, take, codes, Bool, if◌then◌else◌, Option, Some, None}
 use Rattle.std.specs.Str.{bytes_eq}
 use Rattle.rx_seeded.specs.declared.kind.FileKind.{FileKind}
-use Rattle.rx_seeded.specs.declared.kind.FileKind.TheVariants.{Client, Server, SeededServer, Cipher, SeededCipher, Net}
+use Rattle.rx_seeded.specs.declared.kind.FileKind.TheVariants.{Client, Server, SeededServer, Cipher, SeededCipher, Net, Pairs}
 
 -- whether a file begins with these four bytes
 abbrev pub begins : List ℕ → List ℕ → Bool
@@ -17,4 +17,5 @@ kind_of file =
     else if begins file (codes "RXE1") then Some Cipher
     else if begins file (codes "RXE2") then Some SeededCipher
     else if begins file (codes "RXN1") then Some Net
+    else if begins file (codes "RXM1") then Some Pairs
     else None

@@ -17,6 +17,8 @@ pub enum FileKind {
     SeededCipher,
     /// A net file, `RXN1`.
     Net,
+    /// A file of a pair key, `RXM1`.
+    Pairs,
 }
 
 /// The kind that the first four bytes of a file tell, whatever follows. It takes no memory.
@@ -35,6 +37,8 @@ pub fn file_kind(bytes: &[u8]) -> Option<FileKind>
         Some(FileKind::SeededCipher)
     } else if begins(bytes, b"RXN1") {
         Some(FileKind::Net)
+    } else if begins(bytes, b"RXM1") {
+        Some(FileKind::Pairs)
     } else {
         None
     }

@@ -1,0 +1,2 @@
+pub mod PairFiles
+mod Examples

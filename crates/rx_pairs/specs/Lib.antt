@@ -1,0 +1,2 @@
+pub mod PairFile
+pub mod Laws
