@@ -10,19 +10,19 @@ use Rattle.rx_ring.specs.Limbs.{limb, without, above, limb_at}
 use Rattle.rx_ring.specs.Recovery.{Recovers}
 use Rattle.rx_points.proofs.Exact.{fits_within}
 
-within_10 : (v : ℕ) → Within (2 ^ 9) (limb 10 v)
+pub within_10 : (v : ℕ) → Within (2 ^ 9) (limb 10 v)
 unfolding limb
 within_10 v = record { low = omega (arith, ints); high = omega (arith, ints) }
 
-within_8 : (v : ℕ) → Within (2 ^ 7) (limb 8 v)
+pub within_8 : (v : ℕ) → Within (2 ^ 7) (limb 8 v)
 unfolding limb
 within_8 v = record { low = omega (arith, ints); high = omega (arith, ints) }
 
-within_15 : (v : ℕ) → Within (2 ^ 14) (limb 15 v)
+pub within_15 : (v : ℕ) → Within (2 ^ 14) (limb 15 v)
 unfolding limb
 within_15 v = record { low = omega (arith, ints); high = omega (arith, ints) }
 
-within_16 : (v : ℕ) → Within (2 ^ 15) (limb 16 v)
+pub within_16 : (v : ℕ) → Within (2 ^ 15) (limb 16 v)
 unfolding limb
 within_16 v = record { low = omega (arith, ints); high = omega (arith, ints) }
 

@@ -30,7 +30,7 @@ holds_turns n m b old xs before ys count all negated copied = record {
 }
 
 -- a number that is one modulo 2 ^ 16 fits, and so do all of a list of such
-fits_as : (x z : ℤ) → x ≡ int_wrap w16 z → FitsSigned w16 x
+pub fits_as : (x z : ℤ) → x ≡ int_wrap w16 z → FitsSigned w16 x
 fits_as x z e = subst (FitsSigned w16) (sym e) (SFits-int_wrap w16 z)
 
 pub all_fit : (xs : List ℤ) (f : ℕ → ℤ) → ((i : ℕ) → i < length xs → get_or xs i (pos 0) ≡ int_wrap w16 (f i)) → AllFit xs

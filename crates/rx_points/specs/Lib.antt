@@ -1,2 +1,4 @@
 pub mod Numbers
 pub mod Windows
+pub mod Residues
+pub mod Rows

@@ -1,5 +1,5 @@
 //! Worked values.
-use crate::{digit_points, divided, limbs_of, window_sums};
+use crate::{add_digit_products, digit_points, divided, evaluate, limbs_of, window_sums};
 
 /// A limb that is half of its range or more is negative, and one more is left above it. The number `2^69 -
 /// 1` counts as -1.
@@ -39,4 +39,22 @@ fn points_of_the_lowest_digits(rt: HostRuntime) {
     assert_eq!(rt; points[0], -32_768);
     assert_eq!(rt; points[7], -32_768);
     assert_eq!(rt; points[8], 0);
+}
+
+/// Two rows of the lowest digits times two key polynomials of one word each: -4096 times the word, as often as
+/// coefficients below the place are added less those above it are taken away.
+#[test]
+fn products_of_constant_rows(rt: HostRuntime) {
+    let words = [0xfedc_ba98_7654_3210u64; 512];
+    let mut limbs = [0i16; 6144];
+    let mut values = [0u128; 1056];
+    evaluate(&mut limbs, &words, &mut values, 2, 256, 16);
+    let mut acc = [5u64; 256];
+    let mut points = [-2048i16; 1024];
+    let mut turns = [0i16; 64];
+    let mut sums = [0u128; 528];
+    add_digit_products(&mut acc, &mut points, &limbs, &mut turns, &mut sums, 2);
+    assert_eq!(rt; acc[0], 0x1234_5678_9abe_0005);
+    assert_eq!(rt; acc[127], 5);
+    assert_eq!(rt; acc[255], 0x5678_9abc_df00_0005);
 }

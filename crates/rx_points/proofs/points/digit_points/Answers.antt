@@ -1,7 +1,8 @@
 use Rattle.std.proofs.Common.{ℕ, ℤ, List, ◌++◌, refl, sym, subst, ◌∙◌}
 use Rattle.rx_ring.specs.Blocks.{points}
 use Rattle.rx_points.specs.Numbers.{AllFit, AreBlocks, part}
-use Rattle.rx_points.proofs.Levels.{front_at, back_at}
+use Rattle.rx_points.proofs.Levels.{front_at, back_at, blocks_fit}
+use Rattle.rx_points.proofs.RowsEvaluated.{both_fit}
 use Rattle.rx_points.proofs.Exact.{digits_fit, exact}
 use Rattle.rx_points.proofs.points.digit_points.Goals as goal
 
@@ -36,3 +37,7 @@ returns-clause-away c = λ p i l q.
     sym (back_at n 16 (ps ++ qs) ps qs p i refl c.to_points.ensures.points.size)
     ∙ exact n n c.args.points.now front c.split_at_mut-near.result.1.now qs p i
     c.split_at_mut-near.ensures.value c.split_at_mut-near.ensures.front_len c.requires.digits are l q
+
+pub returns-clause-fits : goal.returns-clause-fits
+returns-clause-fits c =
+    both_fit c.to_points.new.blocks c.to_points-2.new.blocks (blocks_fit _ _ _ _ c.to_points.ensures.points) (blocks_fit _ _ _ _ c.to_points-2.ensures.points)
