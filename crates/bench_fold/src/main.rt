@@ -1,8 +1,9 @@
-//! Folds a net of jobs that are equal in pairs, for `bench/fold` to time: `bench_fold JOBS FOLDS`. With 0 for
-//! FOLDS only the net is made. Prints the number of jobs that are left.
+//! Folds a net for `bench/fold` to time: `bench_fold SHAPE JOBS FOLDS`. The jobs are equal in pairs where SHAPE is
+//! `pairs`, and else unlike and of 16 terms. With 0 for FOLDS only the net is made. Prints the number of jobs that are
+//! left.
 #![tactic(auto)]
 
-use nets::net_of;
+use nets::{net_of, wide_net_of};
 use rx_fold::fold;
 use rx_net::{Net, PenError};
 use std::alloc::Global;
@@ -12,9 +13,13 @@ mod nets;
 
 fn main(rt: HostRuntime) -> io::Result<()> {
     let mut words = env::args(&rt)?.skip(1);
+    let is_paired = match words.next() {
+        Some(word) => word.as_str() == "pairs",
+        None => true,
+    };
     let jobs = number(words.next());
     let folds = number(words.next());
-    match left(rt.alloc(), jobs, folds) {
+    match left(rt.alloc(), is_paired, jobs, folds) {
         Ok(count) => println!(rt; "{count}"),
         Err(error) => println!(rt; "{error}"),
     }
@@ -29,8 +34,12 @@ fn number(word: Option<String>) -> u32 {
 }
 
 /// How many jobs are left of a net of so many, folded or, for 0 folds, as it was made.
-fn left(alloc: Global, jobs: u32, folds: u32) -> Result<usize, PenError> {
-    let net = net_of(alloc, jobs)?;
+fn left(alloc: Global, is_paired: bool, jobs: u32, folds: u32) -> Result<usize, PenError> {
+    let net = if is_paired {
+        net_of(alloc, jobs)?
+    } else {
+        wide_net_of(alloc, jobs)?
+    };
     if folds == 0 {
         return Ok(net.jobs.as_slice().len());
     }

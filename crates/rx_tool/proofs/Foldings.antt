@@ -1,4 +1,4 @@
--- A net that is compiled of a circuit stays one when it is folded.
+-- A net that is compiled of a circuit stays one when it is folded, and runs with either give the same.
 use Rattle.std.proofs.Common.{◌≡◌, ℕ, ◌≤◌, List, [], ◌∷◌, map, length, refl, sym, ap, subst, ◌∙◌, arith}
 use Rattle.rx_params.specs.declared.kind.Kind.{Kind}
 use Rattle.rx_net.specs.declared.net.NetOutput.{NetOutput}
@@ -9,11 +9,15 @@ use Rattle.rx_language.specs.Programs.{Program, inputs_of}
 use Rattle.rx_codec.specs.declared.client.Client.{Client}
 use Rattle.rx_fold.specs.Folded.{folded}
 use Rattle.rx_fold.specs.Laws.{FoldLaws}
+use Rattle.rx_codec.specs.Laws.{FileLaws}
+use Rattle.rx_seeded.specs.Laws.{SeededFileLaws}
+use Rattle.rx_server.specs.Laws.{ServerLaws}
 use Rattle.rx_compile.specs.Compiled.{Compiled, Form, form_of_output, input_digits, net_input}
 use Rattle.rx_compile.proofs.PortDigits.{digits_within}
 use Rattle.rx_tool.specs.WholeWay.{Batch}
 use Rattle.rx_tool.specs.CircuitWay.{CircuitGoes}
 use Rattle.rx_tool.specs.FoldWay.{FoldWayLaws}
+use Rattle.rx_tool.proofs.FoldedRuns.{job_reads, outputs_same, refuses, accepts, writes}
 
 -- outputs without their cells, from their names, kinds and bits
 abbrev forms : List (List ℕ) → List Kind → List ℕ → List Form
@@ -41,8 +45,8 @@ stays_compiled laws p net is =
       depth_in = let a = f.shallower in let b = is.depth_in in omega (arith, a, b);
     }
 
-pub fold_way : FoldLaws → FoldWayLaws
-fold_way laws = record {
+pub fold_way : FoldLaws → FileLaws → SeededFileLaws → ServerLaws → FoldWayLaws
+fold_way laws files versions server = record {
   compiled = stays_compiled laws;
   goes = λ c p net batches numbers goes. record {
     accepted = goes.accepted;
@@ -53,4 +57,9 @@ fold_way laws = record {
     once = goes.once;
     found = goes.found;
   };
+  weights = job_reads;
+  same = outputs_same;
+  refuses = refuses laws files versions server;
+  accepts = accepts laws files versions server;
+  writes = writes laws files versions server;
 }

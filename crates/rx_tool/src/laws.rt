@@ -40,9 +40,13 @@ pub fn both_ways_laws()
     seeded_file_laws();
 }
 
-/// A net that is compiled of a circuit stays one when it is folded, so the whole way of a circuit holds of it.
+/// A net that is compiled of a circuit stays one when it is folded, so the whole way of a circuit holds of it; and a
+/// run with either net writes the same file.
 pub fn fold_way_laws()
     ensures { FoldWayLaws }
 {
     fold_laws();
+    file_laws();
+    seeded_file_laws();
+    server_laws();
 }
