@@ -1,5 +1,7 @@
 //! Circuits compiled and run: their values under encryption, the files of a trip, what refuses it and what stops it.
-use crate::circuits::{GIVEN_BACK, circuits, operations, products, quotients};
+use crate::circuits::{
+    GIVEN_BACK, circuits, operations, products, quotients, worked, worked_lines,
+};
 use rx_store::{MemSink, MemStore};
 use rx_tests_kit::{first_wrong, holds, printed, run, was_printed};
 use std::alloc::AllocError;
@@ -81,6 +83,55 @@ fn operations_keep_their_values(rt: HostRuntime) -> Result<(), Fail> {
         ("trip k U Z U c v 3 p", 0, text),
     ];
     assert_eq!(rt; first_wrong(&rt, &mut store, &cases)?, None);
+    Ok(())
+}
+
+/// In the clear and under encryption; a constant of nine bits is none of eight.
+#[test]
+fn worked_values_of_each_operation(rt: HostRuntime) -> Result<(), Fail> {
+    let alloc = rt.alloc();
+    let mut store = worked(alloc)?;
+    store.insert("large", b"bits 2 8\nconst k 256\nout k\n")?;
+    let lines = worked_lines(alloc)?;
+    let cases = [
+        ("client rx-test Z k", 0, ""),
+        ("plain c v", 0, lines.as_str()),
+        ("trip k U Z U c v 4 p", 0, lines.as_str()),
+        ("plain large v", 5, "malformed large line 2 number\n"),
+        (
+            "trip k U Z U large v 4 p",
+            5,
+            "malformed large line 2 number\n",
+        ),
+    ];
+    assert_eq!(rt; first_wrong(&rt, &mut store, &cases)?, None);
+    Ok(())
+}
+
+/// The sum of 64 bits that wraps to 0 has the same four files with 1 and with 7 workers.
+#[test]
+fn a_long_sum_has_one_set_of_files(rt: HostRuntime) -> Result<(), Fail> {
+    let mut store = with_client(&rt, circuits(rt.alloc())?)?;
+    let cases = [
+        ("trip c U Z Z long long.values 1 one", 0, "s 0\n"),
+        ("trip c U Z Z long long.values 7 seven", 0, "s 0\n"),
+        ("trip c U Z Z long long.values 0 p", 10, "limit workers 0\n"),
+        (
+            "trip c U Z Z long long.values 65 p",
+            10,
+            "limit workers 65\n",
+        ),
+    ];
+    assert_eq!(rt; first_wrong(&rt, &mut store, &cases)?, None);
+    for (one, seven) in [
+        ("one.server", "seven.server"),
+        ("one.net", "seven.net"),
+        ("one.inputs", "seven.inputs"),
+        ("one.outputs", "seven.outputs"),
+    ] {
+        assert!(rt; store.get(one).is_some(), "{one}");
+        assert!(rt; store.get(one) == store.get(seven), "{seven}");
+    }
     Ok(())
 }
 
