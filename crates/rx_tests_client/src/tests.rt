@@ -1,2 +1,3 @@
 mod commands;
+mod malformed;
 mod versions;

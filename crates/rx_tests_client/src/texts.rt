@@ -31,3 +31,36 @@ pub fn widths(alloc: Global, step: u32, before: &str, between: &str) -> Result<S
     }
     Ok(lines)
 }
+
+/// The names of the ten fields of a set, in their order.
+const FIELDS: [&str; 10] = [
+    "message_bits",
+    "glwe_dim",
+    "poly_size",
+    "lwe_dim",
+    "pbs_base_log",
+    "pbs_level",
+    "ks_base_log",
+    "ks_level",
+    "glwe_bound",
+    "lwe_bound",
+];
+
+/// The parameter text of ten numbers.
+pub fn set_text(alloc: Global, numbers: &[u32; 10]) -> Result<String, AllocError> {
+    let mut text = String::new(alloc);
+    for (field, number) in FIELDS.iter().zip(numbers) {
+        write!(text, "{field} {number}\n")?;
+    }
+    Ok(text)
+}
+
+/// The lines of a value file of so many bits, `b0` and on, and then another text.
+pub fn bits_and(alloc: Global, count: u32, rest: &str) -> Result<String, AllocError> {
+    let mut text = String::new(alloc);
+    for place in 0..count {
+        write!(text, "bit b{place} 1 0\n")?;
+    }
+    text.push_str(rest)?;
+    Ok(text)
+}

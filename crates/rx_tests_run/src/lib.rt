@@ -5,4 +5,6 @@
 #[cfg(test)]
 mod nets;
 #[cfg(test)]
+mod tables;
+#[cfg(test)]
 mod tests;

@@ -1,3 +1,4 @@
 //! Runs that are done, and what refuses one.
+mod malformed;
 mod run;
 mod server;
