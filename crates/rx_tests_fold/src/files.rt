@@ -22,7 +22,7 @@ const OUTPUT: [u8; 6] = [1, 0, 1, 0x73, 0, 2];
 pub fn net_file(alloc: Global, jobs: &[&[u8]], given: u8) -> Result<Vec<u8>, AllocError> {
     let mut file = Vec::new(alloc);
     file.extend_from_slice(&HEAD)?;
-    file.extend_from_slice(&[jobs.len() as u8, 0, 0, 0])?;
+    file.extend_from_slice(&[count(jobs.len()), 0, 0, 0])?;
     for cells in jobs {
         push_job(&mut file, cells)?;
     }
@@ -31,9 +31,14 @@ pub fn net_file(alloc: Global, jobs: &[&[u8]], given: u8) -> Result<Vec<u8>, All
     Ok(file)
 }
 
+/// A count of fewer than 256 in one byte.
+fn count(length: usize) -> u8 {
+    u8::try_from(length).unwrap_or(u8::MAX)
+}
+
 /// Adds a job with a term of weight 1 for each of the cells.
 fn push_job(file: &mut Vec<u8>, cells: &[u8]) -> Result<(), AllocError> {
-    file.push(cells.len() as u8)?;
+    file.push(count(cells.len()))?;
     for cell in cells {
         file.extend_from_slice(&[*cell, 0, 0, 0, 1])?;
     }
